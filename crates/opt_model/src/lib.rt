@@ -5,6 +5,7 @@
 mod name;
 mod quantity;
 mod records;
+mod verdict;
 
 pub use name::Name;
 pub use quantity::{Quantity, RowName};
@@ -12,3 +13,4 @@ pub use records::{
     Arc, Basket, Commodity, Content, Goal, Group, Need, Nutrient, Offer, Persons, Place, PlaceKind,
     Stock,
 };
+pub use verdict::Verdict;
