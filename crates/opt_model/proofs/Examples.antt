@@ -7,6 +7,7 @@ use Rattle.opt_model.specs.Tables.{Tables}
 use Rattle.opt_model.specs.Quantities.{names, low, high, points, given}
 use Rattle.opt_model.specs.Rows.{Relation, at_least, equal, Row, rows, numbered}
 use Rattle.opt_model.specs.Plans.{Plan, sum_of, Feasible, plan_of, cost_of, goal_of}
+use Rattle.opt_model.specs.Limits.{term_count, within_limits}
 use Rattle.opt_model.specs.Texts.{verdict_line, refusal_line, plan_text}
 use Rattle.csv.specs.Writing.{escaped, fields_text, is_blank}
 use Rattle.opt_base.specs.declared.refusal.File.TheVariants as file
@@ -78,6 +79,10 @@ line_rows : map (shown line_model) (rows line_model)
     ∷ (row.Arc 0 1, at_least, (3, neg_ℤ (pos 1)) ∷ [], neg_ℤ (pos 20000))
     ∷ []
 line_rows = refl
+
+-- 2 + 2 + 2 + 2 + 2 + 1 coefficients, well within the limits
+line_is_within_limits : (term_count line_model ≡ 11) × (within_limits line_model ≡ Ok line_model)
+line_is_within_limits = (refl, refl)
 
 -- 59 steps of 10 g, and 17,700 kg bought, shipped and handed out
 abbrev line_plan : Plan

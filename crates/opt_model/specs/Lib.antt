@@ -4,4 +4,5 @@ pub mod Quantities
 pub mod Rows
 pub mod Plans
 pub mod Verdicts
+pub mod Limits
 pub mod Texts
