@@ -1,5 +1,5 @@
 -- Worked examples: what the definitions say of models that are written out. A wrong definition fails one of them.
-use Rattle.std.proofs.Common.{◌≡◌, ℕ, not, List, [], ◌∷◌, ◌++◌, map, take, drop, Some, None, ℤ, pos, neg_ℤ, ◌-ℤ◌, nat_abs, codes, refl, lit<}
+use Rattle.std.proofs.Common.{◌≡◌, ℕ, not, List, [], ◌∷◌, ◌++◌, map, take, drop, Some, None, Ok, ℤ, pos, neg_ℤ, ◌-ℤ◌, nat_abs, codes, refl, lit<}
 use Rattle.std.specs.List.{flat_map}
 use Rattle.std.specs.Fmt.{digits}
 use Rattle.opt_model.specs.Settings.{Settings}

@@ -1,5 +1,5 @@
 -- How large a model may be.
-use Rattle.std.specs.Prelude.{ℕ, nat_lt, List, length, Result, Ok, Err, sum_by, if◌then◌else◌}
+use Rattle.std.specs.Prelude.{ℕ, nat_lt, length, Result, Ok, Err, sum_by, if◌then◌else◌}
 use Rattle.opt_base.specs.declared.refusal.Refusal.{Refusal}
 use Rattle.opt_base.specs.declared.refusal.File.TheVariants as file
 use Rattle.opt_base.specs.declared.refusal.Kind.TheVariants.{TooMany}
