@@ -20,6 +20,11 @@ abbrev pub Gives : {X Y : Type 0} → (X → Y) → Result X ModelFault → Resu
 Gives view (Ok x) read = read ≡ Ok (view x)
 Gives view (Err fault) read = Fails fault read
 
+-- the answer of a call that takes no memory, seen by view, is what reading gives
+abbrev pub Reads : {X Y E : Type 0} → (X → Y) → Result X E → Result Y E → Type 0
+Reads view (Ok x) read = read ≡ Ok (view x)
+Reads view (Err fault) read = read ≡ Err fault
+
 -- the records one by one, with their numbers, each seeing what the earlier ones made, up to the first fault
 abbrev pub each : {A S E : Type 0} → (ℕ → A → S → Result S E) → ℕ → S → List A → Result S E
 each step number made [] = Ok made

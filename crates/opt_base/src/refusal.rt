@@ -1,5 +1,5 @@
 ghost use Rattle.std.specs.Prelude.{◌≡◌};
-ghost use Rattle.opt_base.specs.declared.refusal.ModelFault.TheVariants.{OutOfMemory as MemoryFault};
+ghost use Rattle.opt_base.specs.declared.refusal.ModelFault.TheVariants.{Refused, OutOfMemory as MemoryFault};
 
 use crate::out_of_memory::OutOfMemory;
 use std::alloc::{AllocError, AllocFailed};
@@ -97,6 +97,14 @@ impl fmt::Display for ModelFault {
 }
 
 impl Error for ModelFault {}
+
+impl From<Refusal> for ModelFault {
+    ghost from_gives = { λ refusal fault. fault ≡ Refused refusal };
+
+    fn from(refusal: Refusal) -> ModelFault {
+        ModelFault::Refused(refusal)
+    }
+}
 
 impl From<OutOfMemory> for ModelFault {
     ghost from_gives = { λ _ fault. fault ≡ MemoryFault };

@@ -1,3 +1,4 @@
 pub mod Quantities
 pub mod Feasibility
+pub mod Sums
 pub mod Examples

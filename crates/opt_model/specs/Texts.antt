@@ -102,13 +102,17 @@ kind_text kind.NoStepInRange = codes "NoStepInRange"
 kind_text kind.EmptyTable = codes "EmptyTable"
 kind_text (kind.TooMany count) = codes "TooMany " ++ decimal count
 
--- the place of a refusal in its file: the record, where there is one, and the column or key, where there is one
-abbrev pub place_text : Refusal → List ℕ
-place_text r = (if r.number == 0 then [] else codes " record " ++ decimal r.number) ++ (if r.column == 0 then [] else codes " column " ++ column_name r.file r.column)
+-- the record of a refusal, where there is one
+abbrev pub record_text : ℕ → List ℕ
+record_text number = if number == 0 then [] else codes " record " ++ decimal number
+
+-- the column or key of a refusal, where there is one
+abbrev pub column_text : File → ℕ → List ℕ
+column_text f column = if column == 0 then [] else codes " column " ++ column_name f column
 
 -- the line of a refusal of the model or of a plan file
 abbrev pub refusal_line : Refusal → List ℕ
-refusal_line r = codes "refused " ++ (file_name r.file ++ (place_text r ++ (codes ": " ++ (kind_text r.kind ++ 10 ∷ []))))
+refusal_line r = codes "refused " ++ (file_name r.file ++ (record_text r.number ++ (column_text r.file r.column ++ (codes ": " ++ (kind_text r.kind ++ 10 ∷ [])))))
 
 -- the name of a record, or nothing where there is no such record
 abbrev pub name_at : {A : Type 0} → List A → ℕ → (A → List ℕ) → List ℕ

@@ -1,0 +1,4 @@
+pub mod Each
+pub mod Given
+pub mod Written
+pub mod Made

@@ -1,0 +1,5 @@
+pub mod Duality
+pub mod BoundSizes
+pub mod KeptLemmas
+pub mod LeafLemmas
+pub mod ClipLemmas

@@ -1,0 +1,13 @@
+use Rattle.std.proofs.Common.{FitsSigned}
+use Rattle.std.proofs.lemmas.Int.{to_z-of_z}
+use mir.Syntax.{w64, w128}
+use Rattle.opt_bound.proofs.LeafLemmas.{leaf_true}
+use Rattle.opt_bound.proofs.lower.leaf_at.Goals as goal
+
+pub returns : goal.returns
+returns c =
+    let b : FitsSigned w128 c.bound.result = record { sfits = c.bound.type_inv } in
+    let q : FitsSigned w64 c.q.result = record { sfits = c.q.type_inv } in
+    leaf_true c.args.system.now c.args.range.now c.bound.result c.q.result c.verdict_of.result c.bound.ensures.limited
+    (simp to_z-of_z at c.verdict_of.ensures.least)
+    (λ x meets inside. rw c.q.ensures.value (c.bound.ensures.law c.requires.admissible x meets inside))

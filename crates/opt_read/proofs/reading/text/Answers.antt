@@ -1,0 +1,16 @@
+use Rattle.std.proofs.Common.{inl, inr}
+use Rattle.std.proofs.lemmas.Bool.{cases_Bool}
+use Rattle.std.proofs.lemmas.Str.{IsUtf8-from_is_utf8, is_utf8-from_IsUtf8}
+use Rattle.std.specs.Str.{is_utf8}
+use Rattle.opt_read.proofs.reading.text.Goals as goal
+
+pub returns-in-Ok : goal.returns-in-Ok
+returns-in-Ok c =
+    let same = c.in-Ok.ensures.cases.0 in
+    rw (is_utf8-from_IsUtf8 _ c.in-Ok.ensures.cases.1, same)
+
+pub returns-in-Err : goal.returns-in-Err
+returns-in-Err c = elim (cases_Bool (is_utf8 c.args.bytes.now)) [
+  | inl text ↦ absurd (c.in-Err.ensures.cases.0 (IsUtf8-from_is_utf8 _ text))
+  | inr other ↦ rw (other, c.refusal.ensures)
+]

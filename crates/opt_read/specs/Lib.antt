@@ -1,0 +1,6 @@
+pub mod Grid
+pub mod Keys
+pub mod Reading
+pub mod Records
+pub mod Settings
+pub mod Setup

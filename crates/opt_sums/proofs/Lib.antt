@@ -1,0 +1,4 @@
+pub mod Ring
+pub mod SumLemmas
+pub mod EntryLemmas
+pub mod RisingLemmas

@@ -1,0 +1,4 @@
+pub mod Sizes
+pub mod ColumnLemmas
+pub mod LimitLemmas
+pub mod ColumnFacts

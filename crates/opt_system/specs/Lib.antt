@@ -1,0 +1,5 @@
+pub mod Bounds
+pub mod Rows
+pub mod Columns
+pub mod Problem
+pub mod Stored

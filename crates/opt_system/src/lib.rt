@@ -1,0 +1,14 @@
+//! Systems of rows over whole quantities: rows, ranges, and the sums that say which points meet a system.
+#![tactic(auto)]
+
+mod range;
+mod rows;
+mod system;
+mod terms;
+
+pub use range::Range;
+pub use rows::{RowKind, RowList};
+pub use system::System;
+
+#[cfg(test)]
+mod tests;

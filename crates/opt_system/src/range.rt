@@ -1,0 +1,117 @@
+ghost use Rattle.std.specs.Prelude.{◌≡◌, ◌↔◌, ℕ, ◌<◌, ◌≤ℤ◌, length, IsTrue, IfOk};
+ghost use Rattle.opt_sums.specs.Sums.{at};
+
+use opt_base::OutOfMemory;
+use std::alloc::Global;
+use std::marker::Model;
+
+/// The least and the greatest value of each quantity.
+#[derive(Debug, Drop)]
+pub struct Range {
+    low: Vec<i64>,
+    high: Vec<i64>,
+}
+
+impl Model for Range {
+    ghost use Rattle.opt_system.specs.Bounds.{Bounds, IsOrdered};
+
+    ghost Value = { Bounds };
+
+    ghost view = { λ r. record { low = r.low.items; high = r.high.items } };
+
+    ghost invariant = { λ r. IsOrdered (record { low = r.low.items; high = r.high.items }) };
+}
+
+impl Range {
+    ghost use Rattle.opt_system.specs.Bounds.{Bounds, IsOrdered, IsWithin, LiesIn};
+
+    /// The range of these lows and highs: as many of each, and `0 <= low <= high` throughout.
+    pub fn new(alloc: Global, low: &[i64], high: &[i64]) -> Result<Range, OutOfMemory>
+        requires { IsOrdered (record { low = low.now; high = high.now }) }
+        ensures { IfOk result (λ range. range ≡ record { low = low.now; high = high.now }) }
+    {
+        let low = Vec::from_slice(alloc, low)?;
+        let high = Vec::from_slice(alloc, high)?;
+        Ok(Range { low, high })
+    }
+
+    /// Whether there are as many of each, and `0 <= low <= high` throughout.
+    pub fn is_ordered(low: &[i64], high: &[i64]) -> bool
+        ensures { IsTrue result ↔ IsOrdered (record { low = low.now; high = high.now }) }
+    {
+        if low.len() != high.len() {
+            return false;
+        }
+        for j in 0..low.len() {
+            if low[j] < 0 || low[j] > high[j] {
+                return false;
+            }
+        }
+        true
+    }
+
+    /// Whether the point has one value for each quantity, and each lies in its range.
+    pub fn contains(&self, x: &[i64]) -> bool
+        ensures { IsTrue result ↔ IsWithin self.now x.now }
+    {
+        if x.len() != self.low.len() {
+            return false;
+        }
+        for j in 0..x.len() {
+            if x[j] < self.low[j] || x[j] > self.high[j] {
+                return false;
+            }
+        }
+        true
+    }
+
+    /// Whether the range is for the quantities of the outer one and leaves no value that the outer one lacks.
+    pub fn lies_in(&self, outer: &Range) -> bool
+        ensures { IsTrue result ↔ LiesIn outer.now self.now }
+    {
+        if self.low.len() != outer.low.len() {
+            return false;
+        }
+        if !at_most(&outer.low, &self.low) {
+            return false;
+        }
+        at_most(&self.high, &outer.high)
+    }
+
+    /// The least value of each quantity.
+    pub fn low(&self) -> &[i64]
+        ensures value { result.now ≡ self.now.low }
+        ensures ordered { IsOrdered self.now }
+    {
+        &self.low
+    }
+
+    /// The greatest value of each quantity.
+    pub fn high(&self) -> &[i64]
+        ensures value { result.now ≡ self.now.high }
+        ensures ordered { IsOrdered self.now }
+    {
+        &self.high
+    }
+
+    /// A copy of the range.
+    pub(crate) fn copied(&self, alloc: Global) -> Result<Range, OutOfMemory>
+        ensures copy { IfOk result (λ range. range ≡ self.now) }
+        ensures ordered { IsOrdered self.now }
+    {
+        Range::new(alloc, &self.low, &self.high)
+    }
+}
+
+/// Whether no number of the first list is above that of the second at the same place.
+fn at_most(first: &[i64], second: &[i64]) -> bool
+    requires { length first.now ≡ length second.now }
+    ensures { IsTrue result ↔ ((j : ℕ) → j < length first.now → at first.now j ≤ℤ at second.now j) }
+{
+    for j in 0..first.len() {
+        if first[j] > second[j] {
+            return false;
+        }
+    }
+    true
+}
