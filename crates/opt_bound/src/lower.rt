@@ -5,7 +5,7 @@ ghost use Rattle.opt_system.specs.Bounds.{IsOrdered, LiesIn, IsWithin};
 ghost use Rattle.opt_system.specs.Problem.{IsLimited, row_at, Meets, value};
 ghost use Rattle.opt_bound.specs.Multipliers.{IsAdmissible, IsProper};
 ghost use Rattle.opt_bound.specs.Bound.{bound_of, least_of, right_of, slope_of};
-ghost use Rattle.opt_bound.specs.Verdict.{IsTrueOf};
+ghost use Rattle.opt_bound.specs.Verdict.{leaf_of, IsTrueOf};
 
 use crate::leaf::{Leaf, verdict_of};
 use crate::mult::Mult;
@@ -39,7 +39,8 @@ pub fn bound(system: &System, range: &Range, mult: &Mult) -> i128
 pub fn leaf_at(system: &System, range: &Range, mult: &Mult) -> Leaf
     requires admissible { IsAdmissible system.now mult.now }
     requires within { LiesIn system.now.root range.now }
-    ensures { IsTrueOf system.now range.now result }
+    ensures value { result ≡ leaf_of (bound_of system.now range.now mult.now) mult.now.q }
+    ensures law { IsTrueOf system.now range.now result }
 {
     verdict_of(bound(system, range, mult), mult.q())
 }

@@ -128,17 +128,17 @@ rising_more es i c from inside rising next k j d below upto =
     let before : (get_or es (i - 1) d).0 ≡ (get_or es (i - 1) c).0 = ap (λ (e : ℕ × ℤ). e.0) (get_or_default es (i - 1) d c (omega arith)) in
     let here : (get_or es i d).0 ≡ (get_or es i c).0 = ap (λ (e : ℕ × ℤ). e.0) (get_or_default es i d c inside) in
     elim (same_or_other j i) [
-      inl e ↦
-        let last : j ≡ i = e in
-        elim (same_or_other k (i - 1)) [
-          inl f ↦
-            let prior : k ≡ i - 1 = f in
-            omega (arith, ap (λ n. (get_or es n d).0) prior, ap (λ n. (get_or es n d).0) last)
-        | inr f ↦
-            let earlier : k ≢ i - 1 = f in
-            omega (arith, rising k (i - 1) d (omega arith) (omega arith), ap (λ n. (get_or es n d).0) last)
-        ]
-    | inr e ↦
-        let earlier : j ≢ i = e in
-        rising k j d below (omega arith)
+      | inl e ↦
+          let last : j ≡ i = e in
+          elim (same_or_other k (i - 1)) [
+            | inl f ↦
+                let prior : k ≡ i - 1 = f in
+                omega (arith, ap (λ n. (get_or es n d).0) prior, ap (λ n. (get_or es n d).0) last)
+            | inr f ↦
+                let earlier : k ≢ i - 1 = f in
+                omega (arith, rising k (i - 1) d (omega arith) (omega arith), ap (λ n. (get_or es n d).0) last)
+          ]
+      | inr e ↦
+          let earlier : j ≢ i = e in
+          rising k j d below (omega arith)
     ]

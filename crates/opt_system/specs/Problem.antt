@@ -1,7 +1,6 @@
 -- A system of rows over whole quantities: its limits, which points meet it, and what a point costs.
 use Rattle.std.specs.Prelude.{◌≡◌, ℕ, ◌*◌, ◌^◌, ◌<◌, ◌≤◌, max, List, [], length, All, sum_by, slice_index_or, ℤ, pos, ◌*ℤ◌, ◌≤ℤ◌, unsigned_abs, nat_lt, if◌then◌else◌, Result, Ok, Err}
 use Rattle.opt_sums.specs.Sums.{at, sum_to}
-use Rattle.opt_sums.specs.Entries.{AllBelow}
 use Rattle.opt_base.specs.declared.refusal.Refusal.{Refusal}
 use Rattle.opt_base.specs.declared.refusal.File.TheVariants.{Model}
 use Rattle.opt_base.specs.declared.refusal.Kind.TheVariants.{TooMany}

@@ -1,5 +1,5 @@
 use Rattle.opt_system.specs.Problem.{Problem}
-use Rattle.opt_system.proofs.LimitLemmas.{IsStored-copies, terms_in}
+use Rattle.opt_system.proofs.LimitLemmas.{IsStored-copies}
 use Rattle.opt_system.proofs.system.assembled.Goals as goal
 use Rattle.std.proofs.Common.{refl}
 

@@ -1,4 +1,4 @@
-use Rattle.std.proofs.Common.{◌≡◌, ◌<◌, ◌≤ℤ◌, ap, refl, arith, length}
+use Rattle.std.proofs.Common.{◌≤ℤ◌, ap, refl, arith, length}
 use Rattle.std.proofs.lemmas.Int.{ints}
 use Rattle.opt_sums.specs.Sums.{at}
 use Rattle.opt_system.proofs.range.Range.lies_in.Goals as goal

@@ -1,5 +1,4 @@
-use Rattle.std.proofs.Common.{◌≡◌, ap, refl, arith, length}
-use Rattle.std.proofs.lemmas.Bool.Decides.{nat_tests}
+use Rattle.std.proofs.Common.{ap, refl, arith, length}
 use Rattle.opt_system.proofs.system.System.are_small.Goals as goal
 
 pub returns : goal.returns

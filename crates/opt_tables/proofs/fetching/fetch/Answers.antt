@@ -1,0 +1,5 @@
+use Rattle.opt_tables.proofs.Folders.{all_got-fetch}
+use Rattle.opt_tables.proofs.fetching.fetch.Goals as goal
+
+pub returns-clause-found : goal.returns-clause-found
+returns-clause-found g c = λ held told. rw (all_got-fetch held c.args.folder.now) (c.fetch_all.ensures.told held told)

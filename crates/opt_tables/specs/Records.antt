@@ -1,0 +1,67 @@
+-- A record of a table, and what stands in its columns.
+use Rattle.std.specs.Prelude.{ℕ, ◌-◌, ◌==◌, ◌&&◌, nat_lt, nat_le, List, [], length, Bool, not, bytes_eq, position, Option, Some, None, Result, Ok, Err, if◌then◌else◌, slice_index_or}
+use Rattle.std.specs.Char.{is_ascii_digit}
+use Rattle.std.specs.List.{list_all}
+use Rattle.std.specs.Option.{ok_or}
+use Rattle.std.specs.Str.Parse.{digits_value}
+use Rattle.opt_base.specs.declared.refusal.File.{File}
+use Rattle.opt_base.specs.declared.refusal.Kind.{Kind}
+use Rattle.opt_base.specs.declared.refusal.Kind.TheVariants.{EmptyName, NameTooLong, BadNumber, OutOfRange, UnknownName}
+use Rattle.opt_base.specs.declared.refusal.Refusal.{Refusal}
+use Rattle.opt_base.specs.Answers.{◌>>=◌}
+use Rattle.opt_read.specs.Grid.{record_at}
+
+-- a record of a table: the table's file, the record's number from 1, its fields
+pub record Record : Type 0 where
+  pub file : File
+  pub number : ℕ
+  pub fields : List (List ℕ)
+
+-- the record of this number, from 1, in a table
+abbrev pub row_of : File → List (List (List ℕ)) → ℕ → Record
+row_of file rows number = record { file = file; number = number; fields = record_at rows number }
+
+-- the refusal of a record for what stands in a column, numbered from 1, or for the record as a whole, 0
+abbrev pub refused_at : Record → ℕ → Kind → Refusal
+refused_at row column kind = record { file = row.file; number = row.number; column = column; kind = kind }
+
+-- what stands in a column, numbered from 1
+abbrev pub text_at : Record → ℕ → List ℕ
+text_at row column = slice_index_or row.fields (column - 1) []
+
+-- a name that may be missing, of at most 64 bytes
+abbrev pub optional_name_at : Record → ℕ → Result (List ℕ) Refusal
+optional_name_at row column =
+    if nat_lt 64 (length (text_at row column)) then Err (refused_at row column NameTooLong) else Ok (text_at row column)
+
+-- a name, of 1 to 64 bytes
+abbrev pub name_at : Record → ℕ → Result (List ℕ) Refusal
+name_at row column =
+    if length (text_at row column) == 0 then Err (refused_at row column EmptyName) else optional_name_at row column
+
+-- whether a text is one or more digits
+abbrev pub is_number : List ℕ → Bool
+is_number text = not (length text == 0) && list_all is_ascii_digit text
+
+-- a number from low to high
+abbrev pub number_at : Record → ℕ → ℕ → ℕ → Result ℕ Refusal
+number_at row column low high =
+    if is_number (text_at row column)
+    then
+    if nat_le low (digits_value 10 (text_at row column)) && nat_le (digits_value 10 (text_at row column)) high
+    then Ok (digits_value 10 (text_at row column))
+    else Err (refused_at row column OutOfRange)
+    else Err (refused_at row column BadNumber)
+
+-- the number of the record that a column names, from 0, among the names of a table
+abbrev pub reference_at : Record → ℕ → List (List ℕ) → Result ℕ Refusal
+reference_at row column names = ok_or (position (bytes_eq (text_at row column)) names) (refused_at row column UnknownName)
+
+-- the same of a column that may be empty
+abbrev pub optional_reference_at : Record → ℕ → List (List ℕ) → Result (Option ℕ) Refusal
+optional_reference_at row column names =
+    if length (text_at row column) == 0 then Ok None else reference_at row column names >>= λ number. Ok (Some number)
+
+-- whether two pairs of names are the same
+abbrev pub are_same_pair : List ℕ × List ℕ → List ℕ × List ℕ → Bool
+are_same_pair a b = bytes_eq a.0 b.0 && bytes_eq a.1 b.1

@@ -1,0 +1,145 @@
+ghost use Rattle.std.specs.Prelude.{◌≡◌, ◌^◌, ◌≤◌, IfOk, IsTrue, MatchOption};
+ghost use Rattle.std.specs.Char.{is_ascii_digit};
+ghost use Rattle.std.specs.List.{list_all};
+ghost use Rattle.std.specs.Str.Parse.{digits_value};
+ghost use Rattle.opt_base.specs.Answers.{Reads};
+ghost use Rattle.opt_tables.specs.Records.{row_of, refused_at, text_at, reference_at, optional_reference_at, optional_name_at, name_at, is_number, number_at};
+
+use crate::names::Names;
+use opt_base::{File, Kind, Refusal};
+use opt_read::Cells;
+use std::marker::Model;
+
+/// The most bytes that a name may have.
+pub const NAME_LIMIT: usize = 64;
+
+/// A record of a table. Its columns are numbered from 1.
+#[derive(Drop)]
+pub struct Row<'a> {
+    cells: &'a Cells,
+    file: File,
+    number: u32,
+}
+
+impl<'a> Model for Row<'a> {
+    ghost use Rattle.opt_read.specs.Grid.{record_at};
+    ghost use Rattle.opt_tables.specs.Records.{Record};
+
+    ghost Value = { Record };
+
+    ghost view = { λ row. record { file = row.file; number = row.number; fields = record_at row.cells.now row.number } };
+}
+
+impl<'a> Row<'a> {
+    /// The record of this number, from 1, in a table.
+    pub fn new(cells: &'a Cells, file: File, number: u32) -> Row<'a>
+        ensures { result ≡ row_of file cells.now number }
+    {
+        Row {
+            cells,
+            file,
+            number,
+        }
+    }
+
+    /// The refusal of this record for what stands in a column, or for the record as a whole, 0.
+    pub fn refused(&self, column: u8, kind: Kind) -> Refusal
+        ensures { result ≡ refused_at self.now column kind }
+    {
+        Refusal {
+            file: self.file,
+            number: self.number,
+            column,
+            kind,
+        }
+    }
+
+    /// What stands in a column.
+    pub fn text(&self, column: u8) -> &'a str
+        ensures { result.now ≡ text_at self.now column }
+    {
+        self.cells
+            .field(self.number, (column as usize).saturating_sub(1))
+    }
+
+    /// A name that may be missing.
+    pub fn optional_name(&self, column: u8) -> Result<&'a str, Refusal>
+        ensures { Reads (λ name. name.now) result (optional_name_at self.now column) }
+    {
+        let text = self.text(column);
+        if text.len() > NAME_LIMIT {
+            return Err(self.refused(column, Kind::NameTooLong));
+        }
+        Ok(text)
+    }
+
+    /// A name, of at least one byte.
+    pub fn name(&self, column: u8) -> Result<&'a str, Refusal>
+        ensures { Reads (λ name. name.now) result (name_at self.now column) }
+    {
+        if self.text(column).is_empty() {
+            return Err(self.refused(column, Kind::EmptyName));
+        }
+        self.optional_name(column)
+    }
+
+    /// A number from `low` to `high`.
+    pub fn number(&self, column: u8, low: u32, high: u32) -> Result<u32, Refusal>
+        ensures exact { result ≡ number_at self.now column low high }
+        ensures within { IfOk result (λ number. (low ≤ number) × (number ≤ high)) }
+    {
+        let text = self.text(column);
+        if !is_number(text) {
+            return Err(self.refused(column, Kind::BadNumber));
+        }
+        let Some(number) = digits(text) else {
+            return Err(self.refused(column, Kind::OutOfRange));
+        };
+        if number < low || high < number {
+            return Err(self.refused(column, Kind::OutOfRange));
+        }
+        Ok(number)
+    }
+
+    /// The number of the record that a column names, from 0, among the names of a table.
+    pub fn reference(&self, column: u8, names: &Names<'_>) -> Result<u32, Refusal>
+        ensures { result ≡ reference_at self.now column names.now }
+    {
+        names
+            .find(self.text(column))
+            .ok_or(self.refused(column, Kind::UnknownName))
+    }
+
+    /// The same of a column that may be empty.
+    pub fn optional_reference(&self, column: u8, names: &Names<'_>) -> Result<Option<u32>, Refusal>
+        ensures { result ≡ optional_reference_at self.now column names.now }
+    {
+        if self.text(column).is_empty() {
+            return Ok(None);
+        }
+        let number = self.reference(column, names)?;
+        Ok(Some(number))
+    }
+}
+
+/// Whether a text is one or more digits.
+fn is_number(text: &str) -> bool
+    ensures { result ≡ is_number text.now }
+{
+    !text.is_empty() && are_digits(text.as_bytes())
+}
+
+/// Whether each byte is a digit.
+fn are_digits(bytes: &[u8]) -> bool
+    ensures { result ≡ list_all is_ascii_digit bytes.now }
+{
+    bytes.iter().all(|byte| byte.is_ascii_digit())
+}
+
+/// The number that digits stand for, where it has at most 32 bits.
+fn digits(text: &str) -> Option<u32>
+    requires { IsTrue (is_number text.now) }
+    ensures { MatchOption result (2 ^ 32 ≤ digits_value 10 text.now) (λ number. number ≡ digits_value 10 text.now) }
+{
+    text.parse::<u32>().ok()
+}

@@ -1,0 +1,13 @@
+mod OneBasket
+mod FirstPlan
+mod Rounding
+mod Given
+mod PlanFile
+mod Counting
+mod Counts
+mod Commands
+mod ReadCells
+mod ReadLines
+mod ReadRecords
+mod ReadModel
+mod Headline

@@ -1,0 +1,7 @@
+pub mod Verdicts
+pub mod OneBasket
+pub mod First
+pub mod PlanFile
+pub mod Counts
+pub mod Plan
+pub mod Words
