@@ -21,6 +21,7 @@ impl<'a> Model for Names<'a> {
     ghost invariant = { λ names. index_set_len names.keys < 2 ^ 32 };
 }
 
+// By hand, so that proofs about values that hold one need not look into the set.
 impl Drop for Names<'_> {
     fn drop(self) {
         let Names { keys: _keys } = self;

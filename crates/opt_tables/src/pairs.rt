@@ -22,6 +22,7 @@ impl<'a> Model for Pairs<'a> {
     ghost invariant = { λ pairs. index_set_len pairs.keys < 2 ^ 32 };
 }
 
+// By hand, so that proofs about values that hold one need not look into the set.
 impl Drop for Pairs<'_> {
     fn drop(self) {
         let Pairs { keys: _keys } = self;

@@ -14,14 +14,34 @@ const NUTRIENTS: &str = "nutrient,required,max_short,weight\nenergy,2100,2100,1\
 
 const CONTENTS: &str = "commodity,nutrient,per_100g\nrice,energy,360\n";
 
-/// What a file holds instead.
+/// What a file holds.
 #[derive(Clone, Copy)]
-struct Change<'a> {
+struct Held<'a> {
     file: File,
     text: &'a str,
 }
 
-/// A file that is to be refused, by itself, and where.
+/// The basket.
+const BASKET: [Held<'static>; 4] = [
+    Held {
+        file: File::Settings,
+        text: SETTINGS,
+    },
+    Held {
+        file: File::Commodities,
+        text: COMMODITIES,
+    },
+    Held {
+        file: File::Nutrients,
+        text: NUTRIENTS,
+    },
+    Held {
+        file: File::Contents,
+        text: CONTENTS,
+    },
+];
+
+/// A file of the basket that is to be refused, and where.
 #[derive(Clone, Copy)]
 struct Case<'a> {
     file: File,
@@ -31,37 +51,25 @@ struct Case<'a> {
     kind: Kind,
 }
 
-/// The files of the basket, with some changes.
-fn files_with(alloc: Global, changes: &[Change<'_>]) -> Result<Files, OutOfMemory> {
-    let mut files = Files::new();
-    hold(alloc, &mut files, File::Settings, SETTINGS)?;
-    hold(alloc, &mut files, File::Commodities, COMMODITIES)?;
-    hold(alloc, &mut files, File::Nutrients, NUTRIENTS)?;
-    hold(alloc, &mut files, File::Contents, CONTENTS)?;
-    for change in changes {
-        hold(alloc, &mut files, change.file, change.text)?;
+fn hold(alloc: Global, files: &mut Files, held: &[Held<'_>]) -> Result<(), OutOfMemory> {
+    for one in held {
+        let blob = Blob::from_slice(alloc, one.text.as_bytes())?;
+        files.hold(one.file, Some(blob));
     }
-    Ok(files)
-}
-
-fn hold(alloc: Global, files: &mut Files, file: File, text: &str) -> Result<(), OutOfMemory> {
-    let blob = Blob::from_slice(alloc, text.as_bytes())?;
-    files.hold(file, Some(blob));
     Ok(())
 }
 
-/// Whether a file is held with this text.
-fn holds(files: &Files, file: File, text: &str) -> bool {
-    match files.held(file) {
-        Some(bytes) => bytes == text.as_bytes(),
-        None => false,
-    }
+/// The tables of some files, of which those in `changes` replace those in `held`.
+fn tables_of(alloc: Global, held: &[Held<'_>], changes: &[Held<'_>]) -> Result<Tables, ModelFault> {
+    let mut files = Files::new();
+    hold(alloc, &mut files, held)?;
+    hold(alloc, &mut files, changes)?;
+    read_model(alloc, &files)
 }
 
-/// The tables of the basket with some changes.
-fn tables_with(alloc: Global, changes: &[Change<'_>]) -> Result<Tables, ModelFault> {
-    let files = files_with(alloc, changes)?;
-    read_model(alloc, &files)
+/// Why there is no model of these files; none where there is one.
+fn fault_of(alloc: Global, held: &[Held<'_>], changes: &[Held<'_>]) -> Option<ModelFault> {
+    tables_of(alloc, held, changes).err()
 }
 
 fn refusal(file: File, number: u32, column: u8, kind: Kind) -> Option<ModelFault> {
@@ -74,262 +82,299 @@ fn refusal(file: File, number: u32, column: u8, kind: Kind) -> Option<ModelFault
 }
 
 /// Each case is refused as it says, alone and with a fault that comes later.
-fn assert_refused(
-    rt: &impl Abort,
-    alloc: Global,
-    cases: &[Case<'_>],
-    later: &Change<'_>,
-) -> Result<(), OutOfMemory> {
+fn assert_refused(rt: &impl Abort, alloc: Global, cases: &[Case<'_>], later: Held<'_>) {
     for case in cases {
         let expected = refusal(case.file, case.number, case.column, case.kind);
-        let mut files = files_with(alloc, &[])?;
-        hold(alloc, &mut files, case.file, case.text)?;
-        assert_eq!(rt; read_model(alloc, &files).err(), expected, "{}", case.text);
-        hold(alloc, &mut files, later.file, later.text)?;
-        assert_eq!(rt; read_model(alloc, &files).err(), expected, "{}", case.text);
+        let wrong = Held {
+            file: case.file,
+            text: case.text,
+        };
+        assert_eq!(rt;
+            fault_of(alloc, &BASKET, &[wrong]),
+            expected,
+            "{}",
+            case.text
+        );
+        assert_eq!(rt;
+            fault_of(alloc, &BASKET, &[wrong, later]),
+            expected,
+            "{}",
+            case.text
+        );
     }
-    Ok(())
+}
+
+fn has_rice(tables: &Tables) -> bool {
+    let [rice] = tables.commodities() else {
+        return false;
+    };
+    rice.commodity.as_str() == "rice, white"
+        && rice.group.is_none()
+        && rice.min_g == 0
+        && rice.max_g == 600
+        && rice.step_g == 10
+}
+
+fn has_energy_in_rice(tables: &Tables) -> bool {
+    let [energy] = tables.nutrients() else {
+        return false;
+    };
+    let [content] = tables.contents() else {
+        return false;
+    };
+    energy.nutrient.as_str() == "energy"
+        && content.commodity == 0
+        && content.nutrient == 0
+        && content.per_100g == 360
+}
+
+fn has_one_basket(tables: &Tables) -> bool {
+    let [basket] = tables.baskets() else {
+        return false;
+    };
+    let [need] = tables.needs() else {
+        return false;
+    };
+    basket.basket.as_str() == "all"
+        && need.basket == 0
+        && need.nutrient == 0
+        && need.required == 2100
+        && need.max_short == 2100
+        && need.weight == 1
+}
+
+fn has_no_network(tables: &Tables) -> bool {
+    tables.groups().is_empty()
+        && tables.places().is_empty()
+        && tables.offers().is_empty()
+        && tables.arcs().is_empty()
+        && tables.persons().is_empty()
+        && tables.stock().is_empty()
 }
 
 #[test]
 fn reads_a_table_of_a_spreadsheet(rt: HostRuntime) -> Result<(), Fail> {
     // A mark, CRLF, another order, a further column, a quoted comma, leading zeros.
-    let tables = tables_with(
+    let tables = tables_of(
         rt.alloc(),
+        &BASKET,
         &[
-            Change {
+            Held {
                 file: File::Commodities,
                 text: "\u{feff}step_g,commodity,group,note,max_g,min_g\r\n010,\"rice, white\",,spring,0600,0\r\n",
             },
-            Change {
+            Held {
                 file: File::Contents,
                 text: "commodity,nutrient,per_100g\n\"rice, white\",energy,360\n",
             },
         ],
     )?;
-    assert_eq!(rt; tables.settings().nodes(), 1);
-    assert!(rt; tables.commodities().len() == 1);
-    let rice = &tables.commodities()[0];
-    assert_eq!(rt; rice.commodity.as_str(), "rice, white");
-    assert_eq!(rt; rice.group, None);
-    assert_eq!(rt; rice.min_g, 0);
-    assert_eq!(rt; rice.max_g, 600);
-    assert_eq!(rt; rice.step_g, 10);
-    assert!(rt; tables.nutrients().len() == 1);
-    assert_eq!(rt; tables.nutrients()[0].nutrient.as_str(), "energy");
-    assert!(rt; tables.contents().len() == 1);
-    assert_eq!(rt; tables.contents()[0].commodity, 0);
-    assert_eq!(rt; tables.contents()[0].nutrient, 0);
-    assert_eq!(rt; tables.contents()[0].per_100g, 360);
-    assert!(rt; tables.baskets().len() == 1);
-    assert_eq!(rt; tables.baskets()[0].basket.as_str(), "all");
-    assert!(rt; tables.needs().len() == 1);
-    let need = tables.needs()[0];
-    assert_eq!(rt; need.basket, 0);
-    assert_eq!(rt; need.nutrient, 0);
-    assert_eq!(rt; need.required, 2100);
-    assert_eq!(rt; need.max_short, 2100);
-    assert_eq!(rt; need.weight, 1);
-    assert!(rt;
-        tables.groups().is_empty() && tables.places().is_empty() && tables.offers().is_empty()
-    );
-    assert!(rt;
-        tables.arcs().is_empty() && tables.persons().is_empty() && tables.stock().is_empty()
-    );
+    assert!(rt; tables.settings().nodes() == 1);
+    assert!(rt; has_rice(&tables));
+    assert!(rt; has_energy_in_rice(&tables));
+    assert!(rt; has_one_basket(&tables));
+    assert!(rt; has_no_network(&tables));
     Ok(())
+}
+
+/// Whether the contents are fat in oil and energy in rice.
+fn are_numbered(tables: &Tables) -> bool {
+    let [fat, energy] = tables.contents() else {
+        return false;
+    };
+    let [_, need] = tables.needs() else {
+        return false;
+    };
+    fat.commodity == 1
+        && fat.nutrient == 1
+        && energy.commodity == 0
+        && energy.nutrient == 0
+        && need.nutrient == 1
+        && need.required == 30
 }
 
 #[test]
 fn names_records_by_their_numbers(rt: HostRuntime) -> Result<(), Fail> {
-    let tables = tables_with(
+    let tables = tables_of(
         rt.alloc(),
+        &BASKET,
         &[
-            Change {
+            Held {
                 file: File::Commodities,
                 text: "commodity,group,min_g,max_g,step_g\nrice,,0,500,10\noil,,25,25,5\n",
             },
-            Change {
+            Held {
                 file: File::Nutrients,
                 text: "nutrient,required,max_short,weight\nenergy,2100,0,1\nfat,30,5,2\n",
             },
-            Change {
+            Held {
                 file: File::Contents,
-                text: "commodity,nutrient,per_100g\noil,fat,100\noil,energy,900\nrice,energy,1000000\n",
+                text: "commodity,nutrient,per_100g\noil,fat,100\nrice,energy,1000000\n",
             },
         ],
     )?;
-    assert!(rt; tables.contents().len() == 3);
-    assert_eq!(rt; tables.contents()[0].commodity, 1);
-    assert_eq!(rt; tables.contents()[0].nutrient, 1);
-    assert_eq!(rt; tables.contents()[2].commodity, 0);
-    assert_eq!(rt; tables.contents()[2].nutrient, 0);
-    assert!(rt; tables.needs().len() == 2);
-    assert_eq!(rt; tables.needs()[1].nutrient, 1);
-    assert_eq!(rt; tables.needs()[1].required, 30);
+    assert!(rt; are_numbered(&tables));
     Ok(())
 }
 
+/// A fault of contents.csv, which is read after the other tables.
+const LATER_TABLE: Held<'static> = Held {
+    file: File::Contents,
+    text: "commodity,nutrient,per_100g\nrice,,-1\n",
+};
+
+/// A group that is not there, which is met when all tables are read.
+const LATER_NAME: Held<'static> = Held {
+    file: File::Commodities,
+    text: "commodity,group,min_g,max_g,step_g\nrice,cereals,0,500,10\n",
+};
+
 #[test]
-fn refuses_commodities(rt: HostRuntime) -> Result<(), Fail> {
-    let later = Change {
-        file: File::Contents,
-        text: "commodity,nutrient,per_100g\nrice,,-1\n",
-    };
-    assert_refused(&rt, rt.alloc(), &COMMODITY_CASES, &later)?;
-    Ok(())
+fn refuses_commodities(rt: HostRuntime) {
+    assert_refused(&rt, rt.alloc(), &COMMODITY_CASES, LATER_TABLE);
 }
 
 #[test]
-fn refuses_nutrients(rt: HostRuntime) -> Result<(), Fail> {
-    let later = Change {
-        file: File::Contents,
-        text: "commodity,nutrient,per_100g\nrice,,-1\n",
-    };
-    assert_refused(&rt, rt.alloc(), &NUTRIENT_CASES, &later)?;
-    Ok(())
+fn refuses_nutrients(rt: HostRuntime) {
+    assert_refused(&rt, rt.alloc(), &NUTRIENT_CASES, LATER_TABLE);
 }
 
 #[test]
-fn refuses_contents(rt: HostRuntime) -> Result<(), Fail> {
-    // The group that is not there is met only when all tables are read.
-    let later = Change {
-        file: File::Commodities,
-        text: "commodity,group,min_g,max_g,step_g\nrice,cereals,0,500,10\n",
-    };
-    assert_refused(&rt, rt.alloc(), &CONTENT_CASES, &later)?;
-    Ok(())
+fn refuses_contents(rt: HostRuntime) {
+    assert_refused(&rt, rt.alloc(), &CONTENT_CASES, LATER_NAME);
 }
 
 #[test]
-fn refuses_names_that_are_not_there(rt: HostRuntime) -> Result<(), Fail> {
-    let cases = [
-        Case {
-            file: File::Contents,
-            text: "commodity,nutrient,per_100g\nrice,energy,360\nbeans,energy,1\n",
-            number: 2,
-            column: 1,
-            kind: Kind::UnknownName,
+fn refuses_names_that_are_not_there(rt: HostRuntime) {
+    assert_refused(
+        &rt,
+        rt.alloc(),
+        &NAME_CASES,
+        Held {
+            file: File::Stock,
+            text: "",
         },
-        Case {
-            file: File::Contents,
-            text: "commodity,nutrient,per_100g\nrice,protein,7\n",
-            number: 1,
-            column: 2,
-            kind: Kind::UnknownName,
-        },
-        Case {
+    );
+}
+
+/// 64 bytes.
+const LONGEST: &str = "0123456789012345678901234567890123456789012345678901234567890123";
+
+/// Why there is no model of commodities with this record.
+fn fault_of_commodity(alloc: Global, record: &str) -> Result<Option<ModelFault>, OutOfMemory> {
+    let text = format!(in alloc; "commodity,group,min_g,max_g,step_g\nrice,,0,500,10\n{record}\n")?;
+    Ok(fault_of(
+        alloc,
+        &BASKET,
+        &[Held {
             file: File::Commodities,
-            text: "commodity,group,min_g,max_g,step_g\nrice,cereals,0,500,10\n",
-            number: 1,
-            column: 2,
-            kind: Kind::UnknownName,
-        },
-    ];
-    let none = Change {
-        file: File::Groups,
-        text: "",
-    };
-    assert_refused(&rt, rt.alloc(), &cases, &none)?;
-    Ok(())
+            text: text.as_str(),
+        }],
+    ))
 }
 
 #[test]
 fn names_have_at_most_64_bytes(rt: HostRuntime) -> Result<(), Fail> {
-    // 64 bytes, of which one is kept from the first text.
-    let longest = "0123456789012345678901234567890123456789012345678901234567890123";
     let alloc = rt.alloc();
-    let fits = format!(in alloc;
-        "commodity,group,min_g,max_g,step_g\n{longest},,0,500,10\nrice,,0,500,10\n"
-    )?;
-    let tables = tables_with(
-        alloc,
-        &[Change {
-            file: File::Commodities,
-            text: fits.as_str(),
-        }],
-    )?;
-    assert!(rt; tables.commodities().len() == 2);
-    assert_eq!(rt; tables.commodities()[0].commodity.as_str(), longest);
-    let name = format!(in alloc; "commodity,group,min_g,max_g,step_g\n{longest}4,,0,500,10\n")?;
-    let refused = tables_with(
-        alloc,
-        &[Change {
-            file: File::Commodities,
-            text: name.as_str(),
-        }],
-    );
+    let fits = format!(in alloc; "{LONGEST},,0,500,10")?;
+    assert_eq!(rt; fault_of_commodity(alloc, fits.as_str())?, None);
+    let name = format!(in alloc; "{LONGEST}4,,0,500,10")?;
     assert_eq!(rt;
-        refused.err(),
-        refusal(File::Commodities, 1, 1, Kind::NameTooLong)
+        fault_of_commodity(alloc, name.as_str())?,
+        refusal(File::Commodities, 2, 1, Kind::NameTooLong)
     );
-    let group = format!(in alloc;
-        "commodity,group,min_g,max_g,step_g\nrice,{longest}4,0,500,10\n"
-    )?;
-    let refused = tables_with(
-        alloc,
-        &[Change {
-            file: File::Commodities,
-            text: group.as_str(),
-        }],
-    );
+    let group = format!(in alloc; "oil,{LONGEST}4,0,500,10")?;
     assert_eq!(rt;
-        refused.err(),
-        refusal(File::Commodities, 1, 2, Kind::NameTooLong)
+        fault_of_commodity(alloc, group.as_str())?,
+        refusal(File::Commodities, 2, 2, Kind::NameTooLong)
     );
     Ok(())
 }
 
 #[test]
-fn files_are_refused_in_order(rt: HostRuntime) -> Result<(), Fail> {
+fn files_must_be_there(rt: HostRuntime) {
     let alloc = rt.alloc();
-    let mut files = Files::new();
+    for count in 0..4 {
+        let missing = refusal(BASKET[count].file, 0, 0, Kind::MissingFile);
+        assert_eq!(rt; fault_of(alloc, &BASKET[..count], &[]), missing);
+    }
+    // Where two files are wrong, the first of all files is named.
+    let groups = Held {
+        file: File::Groups,
+        text: "g",
+    };
+    let too_big = refusal(File::Groups, 0, 0, Kind::FileTooBig);
+    assert_eq!(rt; fault_of(alloc, &BASKET[..2], &[groups]), too_big);
+    // Baskets and needs have the limit of tables, and are not read further.
+    let baskets = Held {
+        file: File::Baskets,
+        text: "no table",
+    };
+    let stock = Held {
+        file: File::Stock,
+        text: "",
+    };
+    assert_eq!(rt; fault_of(alloc, &BASKET, &[baskets, stock]), None);
+}
+
+#[test]
+fn settings_come_before_tables(rt: HostRuntime) {
+    let alloc = rt.alloc();
+    let empty = Held {
+        file: File::Commodities,
+        text: "",
+    };
+    let settings = Held {
+        file: File::Settings,
+        text: "format = 1\n",
+    };
     assert_eq!(rt;
-        read_model(alloc, &files).err(),
-        refusal(File::Settings, 0, 0, Kind::MissingFile)
-    );
-    assert!(rt; files.get(File::Settings).is_none());
-    hold(alloc, &mut files, File::Settings, SETTINGS)?;
-    hold(alloc, &mut files, File::Groups, "group")?;
-    assert_eq!(rt;
-        read_model(alloc, &files).err(),
-        refusal(File::Commodities, 0, 0, Kind::MissingFile)
-    );
-    hold(alloc, &mut files, File::Commodities, "")?;
-    assert_eq!(rt;
-        read_model(alloc, &files).err(),
-        refusal(File::Groups, 0, 0, Kind::FileTooBig)
-    );
-    files.set(File::Groups, None);
-    assert_eq!(rt;
-        read_model(alloc, &files).err(),
-        refusal(File::Nutrients, 0, 0, Kind::MissingFile)
-    );
-    hold(alloc, &mut files, File::Nutrients, NUTRIENTS)?;
-    assert_eq!(rt;
-        read_model(alloc, &files).err(),
-        refusal(File::Contents, 0, 0, Kind::MissingFile)
-    );
-    hold(alloc, &mut files, File::Contents, CONTENTS)?;
-    // A table must name its columns, and settings come before tables.
-    assert_eq!(rt;
-        read_model(alloc, &files).err(),
+        fault_of(alloc, &BASKET, &[empty]),
         refusal(File::Commodities, 0, 1, Kind::ColumnMissing)
     );
-    hold(alloc, &mut files, File::Settings, "format = 1\n")?;
     assert_eq!(rt;
-        read_model(alloc, &files).err(),
+        fault_of(alloc, &BASKET, &[empty, settings]),
         refusal(File::Settings, 0, 2, Kind::SettingMissing)
     );
-    // Baskets and needs have the limit of tables, and are not read further.
-    let mut files = files_with(alloc, &[])?;
-    hold(alloc, &mut files, File::Baskets, "no table")?;
-    hold(alloc, &mut files, File::Needs, "no table")?;
-    hold(alloc, &mut files, File::Stock, "")?;
-    assert!(rt; read_model(alloc, &files).is_ok());
+}
+
+#[test]
+fn keeps_files(rt: HostRuntime) -> Result<(), Fail> {
+    let mut files = Files::new();
+    let blob = Blob::from_slice(rt.alloc(), b"rice")?;
+    files.set(File::Contents, Some(blob));
+    assert!(rt; holds(&files, File::Contents, "rice"));
+    files.set(File::Contents, None);
+    assert!(rt; files.get(File::Contents).is_none());
     Ok(())
 }
 
-/// A shelf that holds the basket in the folder d, with one more file there; calls of these numbers fail.
+/// Whether a file is held with this text.
+fn holds(files: &Files, file: File, text: &str) -> bool {
+    match files.held(file) {
+        Some(bytes) => bytes == text.as_bytes(),
+        None => false,
+    }
+}
+
+/// What is got of a folder, from a shelf that holds the basket in the folder d with one more file, and whose calls of
+/// these numbers fail.
+fn fetched(
+    alloc: Global,
+    fails: &[u64],
+    path: &str,
+    text: &str,
+    folder: &str,
+) -> Result<Files, FetchFault> {
+    match shelf_with(alloc, fails, path, text) {
+        Ok(shelf) => {
+            let mut shelf = shelf;
+            fetch(alloc, &mut shelf, folder)
+        }
+        Err(OutOfMemory) => Err(FetchFault::OutOfMemory),
+    }
+}
+
 fn shelf_with(
     alloc: Global,
     fails: &[u64],
@@ -345,40 +390,64 @@ fn shelf_with(
     Ok(shelf)
 }
 
+fn unfit(file: File, kind: Kind) -> Option<FetchFault> {
+    Some(FetchFault::Refused(Refusal {
+        file,
+        number: 0,
+        column: 0,
+        kind,
+    }))
+}
+
 #[test]
 fn fetches_a_folder(rt: HostRuntime) -> Result<(), Fail> {
-    let alloc = rt.alloc();
-    let mut shelf = shelf_with(alloc, &[13], "d/stock.csv", "")?;
-    let files = fetch(alloc, &mut shelf, "d")?;
+    let files = fetched(rt.alloc(), &[13], "d/stock.csv", "", "d")?;
     assert!(rt; holds(&files, File::Contents, CONTENTS));
     assert!(rt; holds(&files, File::Stock, ""));
     assert!(rt; files.get(File::Needs).is_none());
-    assert!(rt; read_model(alloc, &files).is_ok());
-    let missing = FetchFault::Refused(Refusal {
-        file: File::Settings,
-        number: 0,
-        column: 0,
-        kind: Kind::MissingFile,
-    });
-    let mut shelf = shelf_with(alloc, &[], "d/stock.csv", "")?;
-    assert_eq!(rt; fetch(alloc, &mut shelf, "e").err(), Some(missing));
-    let too_big = FetchFault::Refused(Refusal {
-        file: File::Arcs,
-        number: 0,
-        column: 0,
-        kind: Kind::FileTooBig,
-    });
-    let mut shelf = shelf_with(alloc, &[9], "d/arcs.csv", "\n")?;
-    assert_eq!(rt; fetch(alloc, &mut shelf, "d").err(), Some(too_big));
-    for call in 1..13 {
-        let mut shelf = shelf_with(alloc, &[call], "d/stock.csv", "")?;
-        assert_eq!(rt;
-            fetch(alloc, &mut shelf, "d").err(),
-            Some(FetchFault::Outside)
-        );
-    }
+    assert!(rt; read_model(rt.alloc(), &files).is_ok());
     Ok(())
 }
+
+#[test]
+fn refuses_folders(rt: HostRuntime) {
+    let alloc = rt.alloc();
+    let missing = unfit(File::Settings, Kind::MissingFile);
+    assert_eq!(rt; fetched(alloc, &[], "d/stock.csv", "", "e").err(), missing);
+    let too_big = unfit(File::Arcs, Kind::FileTooBig);
+    assert_eq!(rt;
+        fetched(alloc, &[9], "d/arcs.csv", "\n", "d").err(),
+        too_big
+    );
+    for call in 1..13 {
+        let failed = fetched(alloc, &[call], "d/stock.csv", "", "d").err();
+        assert_eq!(rt; failed, Some(FetchFault::Outside));
+    }
+}
+
+const NAME_CASES: [Case<'static>; 3] = [
+    Case {
+        file: File::Contents,
+        text: "commodity,nutrient,per_100g\nrice,energy,360\nbeans,energy,1\n",
+        number: 2,
+        column: 1,
+        kind: Kind::UnknownName,
+    },
+    Case {
+        file: File::Contents,
+        text: "commodity,nutrient,per_100g\nrice,protein,7\n",
+        number: 1,
+        column: 2,
+        kind: Kind::UnknownName,
+    },
+    Case {
+        file: File::Commodities,
+        text: "commodity,group,min_g,max_g,step_g\nrice,cereals,0,500,10\n",
+        number: 1,
+        column: 2,
+        kind: Kind::UnknownName,
+    },
+];
 
 const COMMODITY_CASES: [Case<'static>; 16] = [
     Case {
