@@ -179,82 +179,74 @@ fn reads_the_tables_as_they_come(rt: HostRuntime) -> Result<(), Fail> {
 }
 
 #[test]
-fn names_the_first_refusal(rt: HostRuntime) -> Result<(), Fail> {
+fn names_what_is_wrong_with_a_file(rt: HostRuntime) -> Result<(), Fail> {
     let alloc = rt.alloc();
-    let answer = planned(
-        alloc,
-        &[Change {
-            path: "d/groups.csv",
-            text: "x",
-        }],
-    )?;
-    expect_refused(&rt, &answer, "refused groups.csv: FileTooBig\n");
-    let settings = "format = 1\nmonths = 1\ndays = [30]\ngap = 300\nnodes = 1\n";
-    let answer = planned(
-        alloc,
-        &[Change {
-            path: "d/settings.toml",
-            text: settings,
-        }],
-    )?;
+    let groups = Change {
+        path: "d/groups.csv",
+        text: "x",
+    };
     expect_refused(
         &rt,
-        &answer,
-        "refused settings.toml column goal: SettingMissing\n",
+        &planned(alloc, &[groups])?,
+        "refused groups.csv: FileTooBig\n",
     );
-    let twice = "commodity,group,min_g,max_g,step_g\nrice,,0,500,10\nrice,,0,100,10\n";
-    let number = "commodity,nutrient,per_100g\nrice,energy,1e3\n";
-    let answer = planned(
-        alloc,
-        &[
-            Change {
-                path: "d/contents.csv",
-                text: number,
-            },
-            Change {
-                path: "d/commodities.csv",
-                text: twice,
-            },
-        ],
-    )?;
+    let no_goal = Change {
+        path: "d/settings.toml",
+        text: "format = 1\nmonths = 1\ndays = [30]\ngap = 300\nnodes = 1\n",
+    };
+    let line = "refused settings.toml column goal: SettingMissing\n";
+    expect_refused(&rt, &planned(alloc, &[no_goal])?, line);
+    let unclosed = Change {
+        path: "d/settings.toml",
+        text: "format = 1\nmonths = 1\ndays = [30\ngoal = \"shortfall\"\ngap = 300\nnodes = 1\n",
+    };
     expect_refused(
         &rt,
-        &answer,
-        "refused commodities.csv record 2: Duplicate\n",
-    );
-    let answer = planned(
-        alloc,
-        &[Change {
-            path: "d/contents.csv",
-            text: number,
-        }],
-    )?;
-    expect_refused(
-        &rt,
-        &answer,
-        "refused contents.csv record 1 column per_100g: BadNumber\n",
-    );
-    let unknown = "commodity,nutrient,per_100g\nmaize,energy,360\n";
-    let answer = planned(
-        alloc,
-        &[Change {
-            path: "d/contents.csv",
-            text: unknown,
-        }],
-    )?;
-    expect_refused(
-        &rt,
-        &answer,
-        "refused contents.csv record 1 column commodity: UnknownName\n",
+        &planned(alloc, &[unclosed])?,
+        "refused settings.toml: TomlRefused\n",
     );
     Ok(())
 }
 
 #[test]
-fn refuses_a_folder_that_is_not_there(rt: HostRuntime) -> Result<(), Fail> {
+fn names_the_first_wrong_record(rt: HostRuntime) -> Result<(), Fail> {
     let alloc = rt.alloc();
-    let mut shelf = basket(alloc)?;
+    let twice = Change {
+        path: "d/commodities.csv",
+        text: "commodity,group,min_g,max_g,step_g\nrice,,0,500,10\nrice,,0,100,10\n",
+    };
+    let number = Change {
+        path: "d/contents.csv",
+        text: "commodity,nutrient,per_100g\nrice,energy,1e3\n",
+    };
+    let unknown = Change {
+        path: "d/contents.csv",
+        text: "commodity,nutrient,per_100g\nmaize,energy,360\n",
+    };
+    let duplicate = "refused commodities.csv record 2: Duplicate\n";
+    expect_refused(&rt, &planned(alloc, &[number, twice])?, duplicate);
+    let line = "refused contents.csv record 1 column per_100g: BadNumber\n";
+    expect_refused(&rt, &planned(alloc, &[number])?, line);
+    let line = "refused contents.csv record 1 column commodity: UnknownName\n";
+    expect_refused(&rt, &planned(alloc, &[unknown])?, line);
+    Ok(())
+}
+
+#[test]
+fn refuses_files_that_are_not_there(rt: HostRuntime) -> Result<(), Fail> {
+    let alloc = rt.alloc();
+    let mut shelf = SureShelf::new(alloc);
+    shelf.load("d/settings.toml", SETTINGS.as_bytes())?;
+    shelf.load("d/commodities.csv", COMMODITIES.as_bytes())?;
+    shelf.load("d/nutrients.csv", NUTRIENTS.as_bytes())?;
     let mut out = SureSink::new(alloc);
+    let mut err = SureSink::new(alloc);
+    let words = words_of(alloc, &["plan", "d"])?;
+    assert_eq!(rt; optimus(alloc, &words, &mut shelf, &mut out, &mut err), 3);
+    assert_eq!(rt;
+        err.written(),
+        b"refused contents.csv: MissingFile\n".as_slice()
+    );
     let mut err = SureSink::new(alloc);
     let words = words_of(alloc, &["plan", "e"])?;
     assert_eq!(rt; optimus(alloc, &words, &mut shelf, &mut out, &mut err), 3);
