@@ -7,10 +7,10 @@ use Rattle.std.proofs.Math.Seq.{take-length}
 use Rattle.std.proofs.Math.Nat.{mul-le-mul_left, mul-le-mul_right}
 use Rattle.std.proofs.lemmas.List.Elements.{All-take, All-weaker}
 use Rattle.opt_sums.specs.Sums.{at, sum_to}
-use Rattle.opt_sums.specs.Entries.{coef, sum_over, AllBelow}
+use Rattle.opt_sums.specs.Entries.{coef, weighted_sum, AllBelow}
 use Rattle.opt_sums.proofs.Ring.{mul_le, mul_ge, size_add, size_sub, size_mul}
 use Rattle.opt_sums.proofs.SumLemmas.{total_to-add, total_to-constant, total_to-more, total_to-part, size_sum_to-by}
-use Rattle.opt_sums.proofs.EntryLemmas.{sum_over-swap, sum_over-same, size_sum_over}
+use Rattle.opt_sums.proofs.EntryLemmas.{weighted_sum-swap, weighted_sum-same, size_sum_over}
 use Rattle.opt_sums.proofs.RisingLemmas.{size_coef, size_sum_over-most, sum_by-rising, sum_by-take_le}
 use Rattle.opt_system.specs.declared.rows.Row.{Row}
 use Rattle.opt_system.specs.Bounds.{Bounds, IsOrdered, LiesIn}
@@ -27,14 +27,14 @@ factor p j = max (unsigned_abs (at p.root.high j)) 1
 
 -- the slope, by the column
 abbrev pub part_slope : Problem → Multipliers → ℕ → List (ℕ × ℤ) → ℤ
-part_slope p m j entries = (m.q *ℤ at p.cost j) -ℤ sum_over entries (coef m.entries)
+part_slope p m j entries = (m.q *ℤ at p.cost j) -ℤ weighted_sum entries (coef m.entries)
 
 -- rows against columns
 pub slope_is : (p : Problem) (m : Multipliers) (j : ℕ) → slope_of p m j ≡ part_slope p m j (column_of p.rows j)
 slope_is p m j =
     ap (λ n. (m.q *ℤ at p.cost j) -ℤ n)
-    (sum_over-same m.entries (λ i. coef (row_at p.rows i).terms j) (coef (column_of p.rows j)) (λ k d _. sym (coef-column_of p.rows j (get_or m.entries k d).0))
-    ∙ sum_over-swap m.entries (column_of p.rows j))
+    (weighted_sum-same m.entries (λ i. coef (row_at p.rows i).terms j) (coef (column_of p.rows j)) (λ k d _. sym (coef-column_of p.rows j (get_or m.entries k d).0))
+    ∙ weighted_sum-swap m.entries (column_of p.rows j))
 
 -- the entries of a column name rows, and their coefficients are small
 pub column_small : (p : Problem) (j : ℕ) → IsLimited p → All (λ e. (e.0 < length p.rows) × (unsigned_abs e.1 * factor p j < 2 ^ 51)) (column_of p.rows j)
@@ -65,10 +65,10 @@ size_part_slope p m j k limited proper h =
     (λ e small. omega (arith, three (unsigned_abs e.1) (unsigned_abs (coef m.entries e.0)) (factor p j) (2 ^ 56) (2 ^ 51) (size_coef m.entries e.0 (2 ^ 56) proper.rising proper.small) (omega (arith, small.1)), ap (λ n. n * factor p j) (size_mul e.1 (coef m.entries e.0))))
     (column_of p.rows j) (column_small p j limited))
     in
-    let rest : unsigned_abs (sum_over (take k (column_of p.rows j)) (coef m.entries)) * factor p j ≤ 2 ^ 107 * length (take k (column_of p.rows j)) =
+    let rest : unsigned_abs (weighted_sum (take k (column_of p.rows j)) (coef m.entries)) * factor p j ≤ 2 ^ 107 * length (take k (column_of p.rows j)) =
     size_sum_over (take k (column_of p.rows j)) (coef m.entries) (factor p j) (2 ^ 107) each
     in
-    omega (arith, first, rest, length-take k (column_of p.rows j), mul-le-mul_right (factor p j) (size_sub (m.q *ℤ at p.cost j) (sum_over (take k (column_of p.rows j)) (coef m.entries))))
+    omega (arith, first, rest, length-take k (column_of p.rows j), mul-le-mul_right (factor p j) (size_sub (m.q *ℤ at p.cost j) (weighted_sum (take k (column_of p.rows j)) (coef m.entries))))
 
 -- a size is no greater than its product with a factor
 size_alone : (a c y : ℕ) → 1 ≤ c → a * c ≤ y → a ≤ y
@@ -115,9 +115,9 @@ size_least p box m j limited proper inside ordered h =
     (size_end p m j (at box.high j) limited proper h (size_top p box j limited inside ordered h))
 
 -- each part of the weighted right sides
-pub size_rights : (p : Problem) (m : Multipliers) (k : ℕ) → IsLimited p → IsProper m → AllBelow (length p.rows) m.entries → unsigned_abs (sum_over (take k m.entries) (λ i. (row_at p.rows i).right)) ≤ 2 ^ 120
+pub size_rights : (p : Problem) (m : Multipliers) (k : ℕ) → IsLimited p → IsProper m → AllBelow (length p.rows) m.entries → unsigned_abs (weighted_sum (take k m.entries) (λ i. (row_at p.rows i).right)) ≤ 2 ^ 120
 size_rights p m k limited proper named =
-    let small : unsigned_abs (sum_over (take k m.entries) (λ i. (row_at p.rows i).right)) ≤ 2 ^ 56 * sum_by (λ e. unsigned_abs (row_at p.rows e.0).right) (take k m.entries) =
+    let small : unsigned_abs (weighted_sum (take k m.entries) (λ i. (row_at p.rows i).right)) ≤ 2 ^ 56 * sum_by (λ e. unsigned_abs (row_at p.rows e.0).right) (take k m.entries) =
     size_sum_over-most (take k m.entries) (λ i. (row_at p.rows i).right) (2 ^ 56) (All-take (λ e. unsigned_abs e.1 ≤ 2 ^ 56) k m.entries proper.small)
     in
     let whole : sum_by (λ e. unsigned_abs (row_at p.rows e.0).right) (take k m.entries) ≤ sum_by (λ (e : ℕ × ℤ). unsigned_abs (row_at p.rows e.0).right) m.entries =
@@ -132,7 +132,7 @@ size_bound p box m k limited proper inside ordered named h =
       arith,
       size_add (right_of p m) (sum_to k (least_of p box m)),
       size_rights p m (length m.entries) limited proper named,
-      ap (λ es. unsigned_abs (sum_over es (λ i. (row_at p.rows i).right))) (take-length m.entries),
+      ap (λ es. unsigned_abs (weighted_sum es (λ i. (row_at p.rows i).right))) (take-length m.entries),
       size_sum_to-by k (least_of p box m) (2 ^ 107) (λ j. 1 + length (column_of p.rows j)) (λ j below. size_least p box m j limited proper inside ordered (omega arith)),
       total_to-add k (λ _. 1) (λ j. length (column_of p.rows j)),
       total_to-constant k 1,

@@ -5,40 +5,40 @@ use Rattle.std.proofs.lemmas.Bool.Decides.{nat_tests}
 use Rattle.std.proofs.Math.Nat.{mul-le-mul_right}
 use Rattle.std.proofs.lemmas.List.Elements.{All-head, All-tail}
 use Rattle.opt_sums.specs.Sums.{sum_to}
-use Rattle.opt_sums.specs.Entries.{coef, sum_over}
+use Rattle.opt_sums.specs.Entries.{coef, weighted_sum}
 use Rattle.opt_sums.proofs.Ring.{mul_add, mul_sub, add_mul, mul_assoc, size_add}
 use Rattle.opt_sums.proofs.SumLemmas.{sum_to-same, sum_to-add, sum_to-mul, sum_to-zero}
 
 -- ---- sums over entries
-pub sum_over-append : (es ds : List (ℕ × ℤ)) (f : ℕ → ℤ) → sum_over (es ++ ds) f ≡ sum_over es f +ℤ sum_over ds f
-sum_over-append [] ds f = omega (arith, ints)
-sum_over-append (e ∷ es) ds f = omega (arith, ints, sum_over-append es ds f)
+pub weighted_sum-append : (es ds : List (ℕ × ℤ)) (f : ℕ → ℤ) → weighted_sum (es ++ ds) f ≡ weighted_sum es f +ℤ weighted_sum ds f
+weighted_sum-append [] ds f = omega (arith, ints)
+weighted_sum-append (e ∷ es) ds f = omega (arith, ints, weighted_sum-append es ds f)
 
 -- one entry more
-pub sum_over-take : (es : List (ℕ × ℤ)) (i : ℕ) (d : ℕ × ℤ) (f : ℕ → ℤ) → i < length es → sum_over (take (i + 1) es) f ≡ sum_over (take i es) f +ℤ (get_or es i d).1 *ℤ f (get_or es i d).0
-sum_over-take [] i d f h = absurd (omega arith)
-sum_over-take (e ∷ es) zero d f h = omega (arith, ints)
-sum_over-take (e ∷ es) (suc i) d f h =
+pub weighted_sum-take : (es : List (ℕ × ℤ)) (i : ℕ) (d : ℕ × ℤ) (f : ℕ → ℤ) → i < length es → weighted_sum (take (i + 1) es) f ≡ weighted_sum (take i es) f +ℤ (get_or es i d).1 *ℤ f (get_or es i d).0
+weighted_sum-take [] i d f h = absurd (omega arith)
+weighted_sum-take (e ∷ es) zero d f h = omega (arith, ints)
+weighted_sum-take (e ∷ es) (suc i) d f h =
     let more : suc i + 1 ≡ suc (i + 1) = omega arith in
-    rw more (omega (arith, ints, sum_over-take es i d f (omega arith)))
+    rw more (omega (arith, ints, weighted_sum-take es i d f (omega arith)))
 
-pub sum_over-same : (es : List (ℕ × ℤ)) (f g : ℕ → ℤ) → All (λ e. f e.0 ≡ g e.0) es → sum_over es f ≡ sum_over es g
-sum_over-same [] f g h = refl
-sum_over-same (e ∷ es) f g h =
+pub weighted_sum-same : (es : List (ℕ × ℤ)) (f g : ℕ → ℤ) → All (λ e. f e.0 ≡ g e.0) es → weighted_sum es f ≡ weighted_sum es g
+weighted_sum-same [] f g h = refl
+weighted_sum-same (e ∷ es) f g h =
     let here : e.1 *ℤ f e.0 ≡ e.1 *ℤ g e.0 = ap (λ n. e.1 *ℤ n) (All-head (λ e. f e.0 ≡ g e.0) e es h) in
-    omega (arith, ints, sum_over-same es f g (All-tail (λ e. f e.0 ≡ g e.0) e es h))
+    omega (arith, ints, weighted_sum-same es f g (All-tail (λ e. f e.0 ≡ g e.0) e es h))
 
-pub sum_over-add : (es : List (ℕ × ℤ)) (f g : ℕ → ℤ) → sum_over es (λ k. f k +ℤ g k) ≡ sum_over es f +ℤ sum_over es g
-sum_over-add [] f g = refl
-sum_over-add (e ∷ es) f g = omega (arith, ints, sum_over-add es f g, mul_add e.1 (f e.0) (g e.0))
+pub weighted_sum-add : (es : List (ℕ × ℤ)) (f g : ℕ → ℤ) → weighted_sum es (λ k. f k +ℤ g k) ≡ weighted_sum es f +ℤ weighted_sum es g
+weighted_sum-add [] f g = refl
+weighted_sum-add (e ∷ es) f g = omega (arith, ints, weighted_sum-add es f g, mul_add e.1 (f e.0) (g e.0))
 
-pub sum_over-sub : (es : List (ℕ × ℤ)) (f g : ℕ → ℤ) → sum_over es (λ k. f k -ℤ g k) ≡ sum_over es f -ℤ sum_over es g
-sum_over-sub [] f g = refl
-sum_over-sub (e ∷ es) f g = omega (arith, ints, sum_over-sub es f g, mul_sub e.1 (f e.0) (g e.0))
+pub weighted_sum-sub : (es : List (ℕ × ℤ)) (f g : ℕ → ℤ) → weighted_sum es (λ k. f k -ℤ g k) ≡ weighted_sum es f -ℤ weighted_sum es g
+weighted_sum-sub [] f g = refl
+weighted_sum-sub (e ∷ es) f g = omega (arith, ints, weighted_sum-sub es f g, mul_sub e.1 (f e.0) (g e.0))
 
-pub sum_over-zero : (es : List (ℕ × ℤ)) → sum_over es (λ _. pos 0) ≡ pos 0
-sum_over-zero [] = refl
-sum_over-zero (e ∷ es) = omega (arith, ints, sum_over-zero es)
+pub weighted_sum-zero : (es : List (ℕ × ℤ)) → weighted_sum es (λ _. pos 0) ≡ pos 0
+weighted_sum-zero [] = refl
+weighted_sum-zero (e ∷ es) = omega (arith, ints, weighted_sum-zero es)
 
 -- ---- a coefficient at its own number and at another
 pub same_or_other : (k j : ℕ) → (k ≡ j) ⊎ (k ≢ j)
@@ -59,16 +59,16 @@ one_turned k j a b =
     ]
 
 -- a sum over entries at a function that is 0 but at k
-pub sum_over-one : (es : List (ℕ × ℤ)) (k : ℕ) (a : ℤ) → sum_over es (λ j. if k == j then a else pos 0) ≡ a *ℤ coef es k
-sum_over-one [] k a = omega (arith, ints)
-sum_over-one (e ∷ es) k a =
-    omega (arith, ints, sum_over-one es k a, one_turned k e.0 a e.1, mul_add a (if e.0 == k then e.1 else pos 0) (coef es k))
+pub weighted_sum-one : (es : List (ℕ × ℤ)) (k : ℕ) (a : ℤ) → weighted_sum es (λ j. if k == j then a else pos 0) ≡ a *ℤ coef es k
+weighted_sum-one [] k a = omega (arith, ints)
+weighted_sum-one (e ∷ es) k a =
+    omega (arith, ints, weighted_sum-one es k a, one_turned k e.0 a e.1, mul_add a (if e.0 == k then e.1 else pos 0) (coef es k))
 
 -- rows against columns: each side is the sum of the products of the coefficients at the same number
-pub sum_over-swap : (es ds : List (ℕ × ℤ)) → sum_over es (coef ds) ≡ sum_over ds (coef es)
-sum_over-swap [] ds = sym (sum_over-zero ds)
-sum_over-swap (e ∷ es) ds =
-    omega (arith, ints, sum_over-add ds (λ j. if e.0 == j then e.1 else pos 0) (coef es), sum_over-one ds e.0 e.1, sum_over-swap es ds)
+pub weighted_sum-swap : (es ds : List (ℕ × ℤ)) → weighted_sum es (coef ds) ≡ weighted_sum ds (coef es)
+weighted_sum-swap [] ds = sym (weighted_sum-zero ds)
+weighted_sum-swap (e ∷ es) ds =
+    omega (arith, ints, weighted_sum-add ds (λ j. if e.0 == j then e.1 else pos 0) (coef es), weighted_sum-one ds e.0 e.1, weighted_sum-swap es ds)
 
 -- ---- coefficients
 pub coef-append : (es ds : List (ℕ × ℤ)) (k : ℕ) → coef (es ++ ds) k ≡ coef es k +ℤ coef ds k
@@ -102,7 +102,7 @@ one_to (suc n) k a f h =
     ]
 
 -- the coefficients at the numbers below n say the whole sum, where f is 0 at the numbers of the other entries
-pub sum_to-coef : (n : ℕ) (es : List (ℕ × ℤ)) (f : ℕ → ℤ) → ((k : ℕ) → n ≤ k → f k ≡ pos 0) → sum_to n (λ j. coef es j *ℤ f j) ≡ sum_over es f
+pub sum_to-coef : (n : ℕ) (es : List (ℕ × ℤ)) (f : ℕ → ℤ) → ((k : ℕ) → n ≤ k → f k ≡ pos 0) → sum_to n (λ j. coef es j *ℤ f j) ≡ weighted_sum es f
 sum_to-coef n [] f h =
     sum_to-same n (λ j. pos 0 *ℤ f j) (λ _. pos 0) (λ j _. omega (arith, ints)) ∙ sum_to-zero n
 sum_to-coef n (e ∷ es) f h =
@@ -110,33 +110,33 @@ sum_to-coef n (e ∷ es) f h =
     ∙ omega (arith, ints, sum_to-add n (λ j. (if e.0 == j then e.1 else pos 0) *ℤ f j) (λ j. coef es j *ℤ f j), one_to n e.0 e.1 f (h e.0), sum_to-coef n es f h)
 
 -- a double sum, from either side
-pub sum_to-exchange : (n : ℕ) (es : List (ℕ × ℤ)) (a : ℕ → ℕ → ℤ) → sum_to n (λ j. sum_over es (λ i. a i j)) ≡ sum_over es (λ i. sum_to n (a i))
+pub sum_to-exchange : (n : ℕ) (es : List (ℕ × ℤ)) (a : ℕ → ℕ → ℤ) → sum_to n (λ j. weighted_sum es (λ i. a i j)) ≡ weighted_sum es (λ i. sum_to n (a i))
 sum_to-exchange n [] a = sum_to-zero n
 sum_to-exchange n (e ∷ es) a =
-    omega (arith, ints, sum_to-add n (λ j. e.1 *ℤ a e.0 j) (λ j. sum_over es (λ i. a i j)), sum_to-mul n e.1 (a e.0), sum_to-exchange n es a)
+    omega (arith, ints, sum_to-add n (λ j. e.1 *ℤ a e.0 j) (λ j. weighted_sum es (λ i. a i j)), sum_to-mul n e.1 (a e.0), sum_to-exchange n es a)
 
 -- a factor goes into a sum over entries
-pub sum_over-mul : (es : List (ℕ × ℤ)) (f : ℕ → ℤ) (b : ℤ) → sum_over es (λ k. f k *ℤ b) ≡ sum_over es f *ℤ b
-sum_over-mul [] f b = omega (arith, ints)
-sum_over-mul (e ∷ es) f b =
-    omega (arith, ints, sum_over-mul es f b, mul_assoc e.1 (f e.0) b, add_mul (e.1 *ℤ f e.0) (sum_over es f) b)
+pub weighted_sum-mul : (es : List (ℕ × ℤ)) (f : ℕ → ℤ) (b : ℤ) → weighted_sum es (λ k. f k *ℤ b) ≡ weighted_sum es f *ℤ b
+weighted_sum-mul [] f b = omega (arith, ints)
+weighted_sum-mul (e ∷ es) f b =
+    omega (arith, ints, weighted_sum-mul es f b, mul_assoc e.1 (f e.0) b, add_mul (e.1 *ℤ f e.0) (weighted_sum es f) b)
 
 -- a sum over entries of parts that are at most 0, or at least 0
-pub sum_over-le : (es : List (ℕ × ℤ)) (f g : ℕ → ℤ) → All (λ e. (e.1 *ℤ f e.0) ≤ℤ (e.1 *ℤ g e.0)) es → sum_over es f ≤ℤ sum_over es g
-sum_over-le [] f g h = omega (arith, ints)
-sum_over-le (e ∷ es) f g h =
+pub weighted_sum-le : (es : List (ℕ × ℤ)) (f g : ℕ → ℤ) → All (λ e. (e.1 *ℤ f e.0) ≤ℤ (e.1 *ℤ g e.0)) es → weighted_sum es f ≤ℤ weighted_sum es g
+weighted_sum-le [] f g h = omega (arith, ints)
+weighted_sum-le (e ∷ es) f g h =
     let here : (e.1 *ℤ f e.0) ≤ℤ (e.1 *ℤ g e.0) = All-head (λ d. (d.1 *ℤ f d.0) ≤ℤ (d.1 *ℤ g d.0)) e es h in
-    let rest : sum_over es f ≤ℤ sum_over es g = sum_over-le es f g (All-tail (λ d. (d.1 *ℤ f d.0) ≤ℤ (d.1 *ℤ g d.0)) e es h) in
+    let rest : weighted_sum es f ≤ℤ weighted_sum es g = weighted_sum-le es f g (All-tail (λ d. (d.1 *ℤ f d.0) ≤ℤ (d.1 *ℤ g d.0)) e es h) in
     omega (arith, ints)
 
 -- ---- sizes
 -- the size of a sum over entries times a factor, from a bound on the size of each part times that factor
-pub size_sum_over : (es : List (ℕ × ℤ)) (f : ℕ → ℤ) (factor most : ℕ) → All (λ e. unsigned_abs (e.1 *ℤ f e.0) * factor ≤ most) es → unsigned_abs (sum_over es f) * factor ≤ most * length es
+pub size_sum_over : (es : List (ℕ × ℤ)) (f : ℕ → ℤ) (factor most : ℕ) → All (λ e. unsigned_abs (e.1 *ℤ f e.0) * factor ≤ most) es → unsigned_abs (weighted_sum es f) * factor ≤ most * length es
 size_sum_over [] f factor most h = omega arith
 size_sum_over (e ∷ es) f factor most h =
     let here : unsigned_abs (e.1 *ℤ f e.0) * factor ≤ most = All-head (λ d. unsigned_abs (d.1 *ℤ f d.0) * factor ≤ most) e es h in
-    let rest : unsigned_abs (sum_over es f) * factor ≤ most * length es = size_sum_over es f factor most (All-tail (λ d. unsigned_abs (d.1 *ℤ f d.0) * factor ≤ most) e es h) in
-    let split : unsigned_abs ((e.1 *ℤ f e.0) +ℤ sum_over es f) * factor ≤ (unsigned_abs (e.1 *ℤ f e.0) + unsigned_abs (sum_over es f)) * factor = mul-le-mul_right factor (size_add (e.1 *ℤ f e.0) (sum_over es f)) in
+    let rest : unsigned_abs (weighted_sum es f) * factor ≤ most * length es = size_sum_over es f factor most (All-tail (λ d. unsigned_abs (d.1 *ℤ f d.0) * factor ≤ most) e es h) in
+    let split : unsigned_abs ((e.1 *ℤ f e.0) +ℤ weighted_sum es f) * factor ≤ (unsigned_abs (e.1 *ℤ f e.0) + unsigned_abs (weighted_sum es f)) * factor = mul-le-mul_right factor (size_add (e.1 *ℤ f e.0) (weighted_sum es f)) in
     omega arith
 
 -- the coefficient at k among one entry more

@@ -5,7 +5,7 @@ use Rattle.std.proofs.Math.Nat.{mul-le-mul_right}
 use Rattle.std.proofs.Math.Seq.{drop-cons, drop-nil, drop-drop}
 use Rattle.std.proofs.lemmas.List.Elements.{All-head, All-tail, All-weaker}
 use Rattle.std.proofs.lemmas.List.Sums.{sum_by-cons, sum_by-append}
-use Rattle.opt_sums.specs.Entries.{coef, sum_over, IsRising, AllBelow}
+use Rattle.opt_sums.specs.Entries.{coef, weighted_sum, IsRising, AllBelow}
 use Rattle.opt_sums.proofs.Ring.{size_add, size_mul}
 use Rattle.std.proofs.Math.ListN.{length-take}
 use Rattle.std.proofs.lemmas.List.{get_or_default, get_or-take, take-append-drop}
@@ -70,11 +70,11 @@ pub sum_by-rising : {X : Type 0} (f : X → ℕ) (xs : List X) (x : X) (es : Lis
 sum_by-rising f xs x es rising below = sum_by-within f xs x 0 es rising (λ _ _ _. omega arith) below
 
 -- the size of a sum over entries whose coefficients are bounded
-pub size_sum_over-most : (es : List (ℕ × ℤ)) (f : ℕ → ℤ) (most : ℕ) → All (λ e. unsigned_abs e.1 ≤ most) es → unsigned_abs (sum_over es f) ≤ most * sum_by (λ e. unsigned_abs (f e.0)) es
+pub size_sum_over-most : (es : List (ℕ × ℤ)) (f : ℕ → ℤ) (most : ℕ) → All (λ e. unsigned_abs e.1 ≤ most) es → unsigned_abs (weighted_sum es f) ≤ most * sum_by (λ e. unsigned_abs (f e.0)) es
 size_sum_over-most [] f most h = omega arith
 size_sum_over-most (e ∷ es) f most h =
     let here : unsigned_abs e.1 * unsigned_abs (f e.0) ≤ most * unsigned_abs (f e.0) = mul-le-mul_right (unsigned_abs (f e.0)) (All-head (λ d. unsigned_abs d.1 ≤ most) e es h) in
-    omega (arith, size_add (e.1 *ℤ f e.0) (sum_over es f), size_mul e.1 (f e.0), ap (λ n. most * n) (sum_by-cons (λ d. unsigned_abs (f d.0)) e es), size_sum_over-most es f most (All-tail (λ d. unsigned_abs d.1 ≤ most) e es h))
+    omega (arith, size_add (e.1 *ℤ f e.0) (weighted_sum es f), size_mul e.1 (f e.0), ap (λ n. most * n) (sum_by-cons (λ d. unsigned_abs (f d.0)) e es), size_sum_over-most es f most (All-tail (λ d. unsigned_abs d.1 ≤ most) e es h))
 
 -- a coefficient of rising entries is that of one entry, or 0
 pub size_coef : (es : List (ℕ × ℤ)) (k most : ℕ) → IsRising es → All (λ e. unsigned_abs e.1 ≤ most) es → unsigned_abs (coef es k) ≤ most

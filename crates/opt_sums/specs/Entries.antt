@@ -9,13 +9,13 @@ coef [] k = pos 0
 coef (e ∷ es) k = (if e.0 == k then e.1 else pos 0) +ℤ coef es k
 
 -- the sum over the entries of each coefficient times f at its number
-abbrev pub sum_over : List (ℕ × ℤ) → (ℕ → ℤ) → ℤ
-sum_over [] f = pos 0
-sum_over (e ∷ es) f = (e.1 *ℤ f e.0) +ℤ sum_over es f
+abbrev pub weighted_sum : List (ℕ × ℤ) → (ℕ → ℤ) → ℤ
+weighted_sum [] f = pos 0
+weighted_sum (e ∷ es) f = (e.1 *ℤ f e.0) +ℤ weighted_sum es f
 
 -- the sum over the entries of each coefficient times the value at its number
 abbrev pub dot : List (ℕ × ℤ) → List ℤ → ℤ
-dot es x = sum_over es (at x)
+dot es x = weighted_sum es (at x)
 
 -- the numbers rise from entry to entry
 abbrev pub IsRising : List (ℕ × ℤ) → Type 0
