@@ -34,16 +34,3 @@ impl Name {
         self.text.as_str()
     }
 }
-
-#[cfg(test)]
-mod tests {
-    use super::*;
-    use std::test::Fail;
-
-    #[test]
-    fn keeps_its_text(rt: HostRuntime) -> Result<(), Fail> {
-        let name = Name::new(rt.alloc(), "rice, white")?;
-        assert_eq!(rt; name.as_str(), "rice, white");
-        Ok(())
-    }
-}

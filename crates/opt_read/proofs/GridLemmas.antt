@@ -1,6 +1,6 @@
 -- The fields, places and records of a table.
-use Rattle.std.proofs.Common.{◌≡◌, ◌<◌, ◌≤◌, ◌+◌, ℕ, zero, suc, Bool, List, [], ◌∷◌, ◌++◌, map, take, drop, length, get_or, slice_index_or, Option, Some, None, Result, Ok, Err, refl, ap, ap₂, sym, ◌∙◌, arith}
-use Rattle.std.proofs.lemmas.List.{drop_all, drop_more, get_or-map, map-append, take_more, length-map}
+use Rattle.std.proofs.Common.{◌≡◌, ◌<◌, ◌+◌, ℕ, zero, suc, Bool, List, [], ◌∷◌, ◌++◌, map, take, drop, length, get_or, slice_index_or, Option, Some, None, Result, Ok, Err, refl, ap, ap₂, sym, ◌∙◌, arith}
+use Rattle.std.proofs.lemmas.List.{get_or-map, map-append, take_more, length-map}
 use Rattle.std.proofs.lemmas.List.Folds.{fold-map}
 use Rattle.std.proofs.lemmas.Bool.Decides.{nat_tests}
 use Rattle.std.specs.Borrow.{Bor}
@@ -11,6 +11,7 @@ use Rattle.csv.specs.Records.{field_at}
 use Rattle.csv.specs.Reading.{default_config, records, strip_bom}
 use Rattle.opt_read.specs.declared.cells.Cells.{Cells}
 use Rattle.opt_base.specs.Answers.{Fails, Gives, each, ◌>>=◌}
+use Rattle.opt_base.proofs.Each.{each_next}
 use Rattle.opt_base.specs.declared.refusal.ModelFault.{ModelFault}
 use Rattle.opt_base.specs.declared.refusal.ModelFault.TheVariants.{Refused, OutOfMemory}
 use Rattle.csv.specs.Records.{Row, fields_of}
@@ -48,14 +49,6 @@ position-map f p xs = rw (prefix_len-map f (λ y. not (p y)) xs, length-map xs f
 
 pub count_by-map : {X Y : Type 0} (f : X → Y) (p : Y → Bool) (xs : List X) → count_by p (map f xs) ≡ count_by (λ x. p (f x)) xs
 count_by-map f p xs = fold-map (λ n y. n + cond (p y) 1 0) f 0 xs
-
--- the fold over a table's records: what is left of it, one record on, and at its end
-pub each-next : {A S E : Type 0} (step : ℕ → A → S → Result S E) (number i j : ℕ) (made : S) (xs : List A) (d : A) → i < length xs → number + 1 ≡ j
-    → each step number made (drop i xs) ≡ (step number (get_or xs i d) made >>= λ more. each step j more (drop (i + 1) xs))
-each-next step number i j made xs d within next = rw (drop_more xs i d within, ← next)
-
-pub each-end : {A S E : Type 0} (step : ℕ → A → S → Result S E) (number i : ℕ) (made : S) (xs : List A) → length xs ≤ i → each step number made (drop i xs) ≡ Ok made
-each-end step number i made xs past = rw (drop_all i xs past)
 
 -- a name's place in a header that is lent
 place-lent : (file : File) (fields : List (Bor (List ℕ))) (column : ℕ) (name : List ℕ)
@@ -115,7 +108,7 @@ places-next : (file : File) (header : List (List ℕ)) (names : List (Bor (List 
     ≡ (place_of file header (i + 1) (get_or names i d).now >>= λ place. Ok (made ++ place ∷ [])) >>= λ more. each (with_place file header) (i + 1 + 1) more (drop (i + 1) (map (λ name. name.now) names))
 places-next file header names i made d within =
     rw (← get_or-map (λ (name : Bor (List ℕ)). name.now) names i d [] within)
-    (each-next (with_place file header) (i + 1) i (i + 1 + 1) made (map (λ name. name.now) names) [] (omega (arith, length-map names (λ (name : Bor (List ℕ)). name.now))) refl)
+    (each_next (with_place file header) (i + 1) made (map (λ name. name.now) names) i [] (omega (arith, length-map names (λ (name : Bor (List ℕ)). name.now))))
 
 pub places-fail : (file : File) (header : List (List ℕ)) (names : List (Bor (List ℕ))) (i : ℕ) (made : List ℕ) (d : Bor (List ℕ)) (read : Result (List ℕ) Refusal) (fault : ModelFault) → i < length names
     → each (with_place file header) (i + 1) made (drop i (map (λ name. name.now) names)) ≡ read

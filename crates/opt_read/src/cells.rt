@@ -1,6 +1,7 @@
 ghost use Rattle.std.specs.Prelude.{◌≡◌, ◌↔◌, ◌<◌, ◌^◌, vec_len, [], IsTrue, length, map, string_bytes, slice_index_or};
 ghost use Rattle.opt_read.specs.Grid.{field_at};
 
+use std::alloc::Global;
 use std::marker::Model;
 
 /// The fields of a table's records in the columns that were asked for, without the record that names the columns.
@@ -27,6 +28,15 @@ impl Cells {
         ensures { result ≡ map (λ fields. map string_bytes fields.items) records.items }
     {
         Cells { records }
+    }
+
+    /// No records.
+    pub fn empty(alloc: Global) -> Cells
+        ensures { result ≡ [] }
+    {
+        Cells {
+            records: Vec::new(alloc),
+        }
     }
 
     /// How many records there are.

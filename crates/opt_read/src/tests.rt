@@ -1,6 +1,6 @@
 ghost use Rattle.std.specs.Prelude.{◌<◌, ◌^◌, length};
 
-use crate::{Goal, grid, settings};
+use crate::{Cells, Goal, grid, settings};
 use opt_base::{File, Kind, ModelFault, Refusal};
 use std::alloc::{AllocError, Global};
 use std::test::Fail;
@@ -72,6 +72,14 @@ fn reads_a_header_alone(rt: HostRuntime) -> Result<(), Fail> {
 }
 
 #[test]
+fn has_no_records(rt: HostRuntime) {
+    let cells = Cells::empty(rt.alloc());
+    assert!(rt; cells.is_empty());
+    assert!(rt; cells.len() == 0);
+    assert!(rt; cells.field(1, 0).is_empty());
+}
+
+#[test]
 fn refuses_columns(rt: HostRuntime) -> Result<(), Fail> {
     let alloc = rt.alloc();
     // No record, the first column, the second, another case, one inside another.
@@ -100,6 +108,33 @@ fn refuses_records(rt: HostRuntime) -> Result<(), Fail> {
     assert!(rt; refuses_table(alloc, b"\xff\n", 0, 0, Kind::NotUtf8));
     assert!(rt; refuses_table(alloc, b"a,b,c\n1,\xc3,3\n1\n", 0, 0, Kind::NotUtf8));
     assert!(rt; refuses_table(alloc, b"a,b,c\n1,2,\xed\xa0\x80\n", 0, 0, Kind::NotUtf8));
+    Ok(())
+}
+
+#[test]
+fn reads_a_table_of_16_777_216_bytes(rt: HostRuntime) -> Result<(), Fail> {
+    // A further column of half as many bytes, and then empty lines.
+    let alloc = rt.alloc();
+    let mut bytes = Vec::from_slice(alloc, b"a,c,b\n1,")?;
+    bytes.resize(8_388_608, b'x')?;
+    bytes.extend_from_slice(b",2\n")?;
+    bytes.resize(16_777_216, b'\n')?;
+    assert!(rt; bytes.len() == 16_777_216);
+    let cells = grid(alloc, File::Arcs, bytes.as_slice(), "a,b")?;
+    assert!(rt; cells.len() == 1);
+    assert!(rt; cells.field(1, 0) == "1");
+    assert!(rt; cells.field(1, 1) == "2");
+    Ok(())
+}
+
+#[test]
+fn reads_settings_of_65_536_bytes(rt: HostRuntime) -> Result<(), Fail> {
+    let alloc = rt.alloc();
+    let mut bytes = Vec::from_slice(alloc, PLAIN.as_bytes())?;
+    bytes.resize(65_536, b'#')?;
+    assert!(rt; bytes.len() == 65_536);
+    let setup = settings(alloc, bytes.as_slice())?;
+    assert!(rt; setup.nodes() == 1);
     Ok(())
 }
 

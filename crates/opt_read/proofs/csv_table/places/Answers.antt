@@ -1,7 +1,8 @@
 use Rattle.std.proofs.Common.{◌∙◌, ◌+◌, arith, List, ℕ, Bor, map, sym, length, ◌≤◌}
 use Rattle.std.proofs.lemmas.List.{length-map}
 use Rattle.std.proofs.lemmas.Result.{err_from_is_err_and}
-use Rattle.opt_read.proofs.GridLemmas.{each-end, places-fail, places-on}
+use Rattle.opt_base.proofs.Each.{each_done}
+use Rattle.opt_read.proofs.GridLemmas.{places-fail, places-on}
 use Rattle.opt_read.proofs.csv_table.places.Goals as goal
 
 pub loop-index-init : goal.loop-index-init
@@ -19,4 +20,4 @@ loop-index-preserved c =
 pub returns : goal.returns
 returns c =
     let past : length (map (λ name. name.now) c.args.names.now) ≤ c.loop-index.index = omega (arith, length-map c.args.names.now (λ (name : Bor (List ℕ)). name.now)) in
-    sym c.loop-index.invariant ∙ each-end _ (c.loop-index.index + 1) c.loop-index.index c.loop-index.places.items (map (λ name. name.now) c.args.names.now) past
+    sym c.loop-index.invariant ∙ each_done _ (c.loop-index.index + 1) c.loop-index.places.items (map (λ name. name.now) c.args.names.now) c.loop-index.index past
