@@ -1,12 +1,12 @@
 -- Getting the files of a folder one by one is getting all, where none is refused.
-use Rattle.std.proofs.Common.{◌≡◌, ℕ, ◌+◌, Bool, true, false, List, [], ◌∷◌, length, nat_le, Option, Some, None, Result, Ok, Err, refl, sym, ap, ◌∙◌}
+use Rattle.std.proofs.Common.{◌≡◌, ℕ, ◌+◌, Bool, true, false, List, [], ◌∷◌, length, nat_le, Option, Some, None, Result, Ok, Err, refl, sym}
 use Rattle.opt_base.specs.declared.refusal.File.{File}
 use Rattle.opt_base.specs.declared.refusal.File.TheVariants.{Settings, Commodities, Groups, Nutrients, Contents, Places, Offers, Arcs, Persons, Stock, Baskets, Needs, Model, Plan, Certificate, Edits, Executed}
 use Rattle.opt_base.specs.declared.refusal.Refusal.{Refusal}
 use Rattle.opt_base.specs.Answers.{◌>>=◌, each}
 use Rattle.opt_base.specs.Outside.{Files}
-use Rattle.opt_tables.specs.Files.{ModelFiles, no_files, model_files, file_of, with_file, admitted, is_required, limit_of, checked, with_checked, path_of, files_in, fetch_of, IsModelFile}
-use Rattle.opt_tables.specs.Fetched.{got, with_got, all_got}
+use Rattle.opt_tables.specs.Files.{ModelFiles, no_files, model_files, file_of, with_file, admitted, is_required, limit_of, with_checked, path_of, files_in, fetch_of, IsModelFile}
+use Rattle.opt_tables.specs.Fetched.{with_got, all_got}
 
 -- what a folder's files have at a model file
 file_of-files_in : (held : Files) (folder : List ℕ) (file : File) → IsModelFile file → file_of (files_in held folder) file ≡ held (path_of folder file)

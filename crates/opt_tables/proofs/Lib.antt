@@ -1,3 +1,4 @@
+pub mod Equality
 pub mod Folders
 pub mod Lists
 pub mod Sizes

@@ -88,12 +88,7 @@ is_required _ = false
 -- how many bytes a model file may have
 abbrev pub limit_of : File → ℕ
 limit_of Settings = 65536
-limit_of Commodities = 16777216
-limit_of Nutrients = 16777216
-limit_of Contents = 16777216
-limit_of Baskets = 16777216
-limit_of Needs = 16777216
-limit_of _ = 0
+limit_of _ = 16777216
 
 -- the refusal of a file as a whole
 abbrev pub refused_file : File → Kind → Refusal

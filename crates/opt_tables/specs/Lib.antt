@@ -1,8 +1,9 @@
-pub mod Commodities
-pub mod Contents
+pub mod Diet
 pub mod Fetched
 pub mod Files
+pub mod Grids
+pub mod Keys
 pub mod Lines
 pub mod Model
-pub mod Nutrients
+pub mod Network
 pub mod Records

@@ -1,56 +1,83 @@
 -- The model that the files of a folder stand for, or their first refusal.
-use Rattle.std.specs.Prelude.{ℕ, List, [], ◌∷◌, codes, Result, Ok}
-use Rattle.opt_base.specs.declared.refusal.File.TheVariants.{Settings, Commodities, Nutrients, Contents}
+use Rattle.std.specs.Prelude.{[], ◌∷◌, codes, Result, Ok}
+use Rattle.opt_base.specs.declared.refusal.File.TheVariants.{Settings}
 use Rattle.opt_base.specs.declared.refusal.Refusal.{Refusal}
 use Rattle.opt_base.specs.Answers.{◌>>=◌}
 use Rattle.opt_model.specs.Settings.{Settings as SettingsOf}
 use Rattle.opt_model.specs.Tables.{Tables}
 use Rattle.opt_model.specs.declared.records.Basket.{Basket}
-use Rattle.opt_read.specs.Grid.{grid_of}
 use Rattle.opt_read.specs.Settings.{settings_of}
-use Rattle.opt_tables.specs.declared.commodities.CommodityLine.{CommodityLine}
-use Rattle.opt_tables.specs.declared.nutrients.NutrientLine.{NutrientLine}
 use Rattle.opt_tables.specs.Files.{ModelFiles, bytes_of, all_checked}
-use Rattle.opt_tables.specs.Lines.{Lines, lines_of}
-use Rattle.opt_tables.specs.Commodities.{commodity_lines_of, commodities_of}
-use Rattle.opt_tables.specs.Nutrients.{nutrient_line_of, nutrients_of, needs_of}
-use Rattle.opt_tables.specs.Contents.{ContentLines, content_lines_of, contents_of}
+use Rattle.opt_tables.specs.Grids.{diet_grids_of, network_grids_of}
+use Rattle.opt_tables.specs.Lines.{records_of}
+use Rattle.opt_tables.specs.Diet.{DietTables, diet_of, commodity_of, group_of, nutrient_of, content_of, needs_of}
+use Rattle.opt_tables.specs.Network.{NetworkTables, network_of, place_of, offer_of, arc_of, persons_of, stock_of}
+use Rattle.opt_tables.specs.declared.diet.Diet.{Diet}
+use Rattle.opt_tables.specs.declared.diet.DietGrids.{DietGrids}
+use Rattle.opt_tables.specs.declared.network.Network.{Network}
+use Rattle.opt_tables.specs.declared.network.NetworkGrids.{NetworkGrids}
 
 -- the one basket of a folder without tables of baskets
 abbrev pub only_basket : Basket
 only_basket = record { basket = codes "all" }
 
--- the tables, given what their records say; commodities have no groups
-unfoldable pub linked_of : SettingsOf → List (List (List ℕ)) → Lines CommodityLine → Lines NutrientLine → List (List (List ℕ)) → ContentLines → Result Tables Refusal
-linked_of settings commodity_rows commodity_lines nutrient_lines content_rows content_lines = do
-  commodities ← commodities_of [] commodity_rows commodity_lines.lines
-  contents ← contents_of commodity_lines.names nutrient_lines.names content_rows content_lines.lines
-  Ok (record { settings = settings; commodities = commodities; groups = []; nutrients = nutrients_of nutrient_lines.names; contents = contents; places = []; offers = []; arcs = []; persons = []; stock = []; baskets = only_basket ∷ []; needs = needs_of nutrient_lines.lines })
+-- the records of the diet, with the numbers of those that they name
+unfoldable pub diet_records_of : Diet → Result DietTables Refusal
+diet_records_of diet = do
+  commodities ← records_of (commodity_of diet) diet.commodities
+  groups ← records_of group_of diet.groups
+  nutrients ← records_of nutrient_of diet.nutrients
+  contents ← records_of (content_of diet) diet.contents
+  Ok (record { commodities = commodities; groups = groups; nutrients = nutrients; contents = contents; needs = needs_of diet.nutrients.lines })
 
--- the tables, given the settings and what the commodities and the nutrients say
-unfoldable pub tables_from_contents : ModelFiles → SettingsOf → List (List (List ℕ)) → Lines CommodityLine → Lines NutrientLine → Result Tables Refusal
-tables_from_contents files settings commodity_rows commodity_lines nutrient_lines = do
-  content_rows ← grid_of Contents (bytes_of files Contents) (codes "commodity,nutrient,per_100g")
-  content_lines ← content_lines_of content_rows
-  linked_of settings commodity_rows commodity_lines nutrient_lines content_rows content_lines
+-- the records of the network, with the numbers of those that they name
+unfoldable pub network_records_of : Diet → Network → Result NetworkTables Refusal
+network_records_of diet network = do
+  places ← records_of place_of network.places
+  offers ← records_of (offer_of diet network) network.offers
+  arcs ← records_of (arc_of network) network.arcs
+  persons ← records_of (persons_of network) network.persons
+  stock ← records_of (stock_of diet network) network.stock
+  Ok (record { places = places; offers = offers; arcs = arcs; persons = persons; stock = stock })
 
--- the tables, given the settings and what the commodities say
-unfoldable pub tables_from_nutrients : ModelFiles → SettingsOf → List (List (List ℕ)) → Lines CommodityLine → Result Tables Refusal
-tables_from_nutrients files settings commodity_rows commodity_lines = do
-  nutrient_rows ← grid_of Nutrients (bytes_of files Nutrients) (codes "nutrient,required,max_short,weight")
-  nutrient_lines ← lines_of nutrient_line_of Nutrients nutrient_rows
-  tables_from_contents files settings commodity_rows commodity_lines nutrient_lines
+-- the tables of these records, with one basket
+abbrev pub tables_with : SettingsOf → DietTables → NetworkTables → Tables
+tables_with settings diet network = record {
+  settings = settings;
+  commodities = diet.commodities;
+  groups = diet.groups;
+  nutrients = diet.nutrients;
+  contents = diet.contents;
+  places = network.places;
+  offers = network.offers;
+  arcs = network.arcs;
+  persons = network.persons;
+  stock = network.stock;
+  baskets = only_basket ∷ [];
+  needs = diet.needs;
+}
+
+-- the tables, given what their records say but for the records that they name
+unfoldable pub linked_of : SettingsOf → Diet → Network → Result Tables Refusal
+linked_of settings diet network = do
+  diet_records ← diet_records_of diet
+  network_records ← network_records_of diet network
+  Ok (tables_with settings diet_records network_records)
+
+-- the tables, given the settings and how the tables are split into fields
+unfoldable pub tables_in : DietGrids → NetworkGrids → SettingsOf → Result Tables Refusal
+tables_in diet_grids network_grids settings = do
+  diet ← diet_of diet_grids
+  network ← network_of settings.months network_grids
+  linked_of settings diet network
 
 -- the tables, given the settings
-unfoldable pub tables_with : ModelFiles → SettingsOf → Result Tables Refusal
-tables_with files settings = do
-  commodity_rows ← grid_of Commodities (bytes_of files Commodities) (codes "commodity,group,min_g,max_g,step_g")
-  commodity_lines ← commodity_lines_of commodity_rows
-  tables_from_nutrients files settings commodity_rows commodity_lines
+abbrev pub tables_from : ModelFiles → SettingsOf → Result Tables Refusal
+tables_from files settings = tables_in (diet_grids_of files) (network_grids_of files) settings
 
 -- the model, or the first refusal: of the files as wholes, of the settings, of the tables' records, of their references
 unfoldable pub tables_of : ModelFiles → Result Tables Refusal
 tables_of files = do
   checked ← all_checked files
   settings ← settings_of (bytes_of files Settings)
-  tables_with files settings
+  tables_from files settings

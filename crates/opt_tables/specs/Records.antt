@@ -1,5 +1,5 @@
 -- A record of a table, and what stands in its columns.
-use Rattle.std.specs.Prelude.{ℕ, ◌-◌, ◌==◌, ◌&&◌, nat_lt, nat_le, List, [], length, Bool, not, bytes_eq, position, Option, Some, None, Result, Ok, Err, if◌then◌else◌, slice_index_or}
+use Rattle.std.specs.Prelude.{ℕ, ◌-◌, ◌==◌, ◌&&◌, nat_lt, nat_le, List, [], length, Bool, not, bytes_eq, codes, position, Option, Some, None, Result, Ok, Err, if◌then◌else◌, slice_index_or}
 use Rattle.std.specs.Char.{is_ascii_digit}
 use Rattle.std.specs.List.{list_all}
 use Rattle.std.specs.Option.{ok_or}
@@ -9,7 +9,10 @@ use Rattle.opt_base.specs.declared.refusal.Kind.{Kind}
 use Rattle.opt_base.specs.declared.refusal.Kind.TheVariants.{EmptyName, NameTooLong, BadNumber, OutOfRange, UnknownName}
 use Rattle.opt_base.specs.declared.refusal.Refusal.{Refusal}
 use Rattle.opt_base.specs.Answers.{◌>>=◌}
+use Rattle.opt_model.specs.declared.records.PlaceKind.{PlaceKind}
+use Rattle.opt_model.specs.declared.records.PlaceKind.TheVariants as kind
 use Rattle.opt_read.specs.Grid.{record_at}
+use Rattle.opt_tables.specs.Keys.{Known, Name, are_same}
 
 -- a record of a table: the table's file, the record's number from 1, its fields
 pub record Record : Type 0 where
@@ -53,15 +56,28 @@ number_at row column low high =
     else Err (refused_at row column OutOfRange)
     else Err (refused_at row column BadNumber)
 
--- the number of the record that a column names, from 0, among the names of a table
-abbrev pub reference_at : Record → ℕ → List (List ℕ) → Result ℕ Refusal
-reference_at row column names = ok_or (position (bytes_eq (text_at row column)) names) (refused_at row column UnknownName)
+-- the same of a column that may be empty
+abbrev pub optional_number_at : Record → ℕ → ℕ → ℕ → Result (Option ℕ) Refusal
+optional_number_at row column low high =
+    if length (text_at row column) == 0 then Ok None else number_at row column low high >>= λ number. Ok (Some number)
+
+-- the kind of place that a word names
+abbrev pub kind_named : List ℕ → Option PlaceKind
+kind_named word =
+    if bytes_eq word (codes "supplier") then Some kind.Supplier
+    else (if bytes_eq word (codes "port") then Some kind.Port
+    else (if bytes_eq word (codes "hub") then Some kind.Hub
+    else (if bytes_eq word (codes "point") then Some kind.Point else None)))
+
+-- the kind of place that a column names
+abbrev pub kind_at : Record → ℕ → Result PlaceKind Refusal
+kind_at row column = ok_or (kind_named (text_at row column)) (refused_at row column UnknownName)
+
+-- the number of the record that a column names, from 0, among those that are known by their names
+abbrev pub reference_at : Record → ℕ → List Known → Result ℕ Refusal
+reference_at row column keys = ok_or (position (are_same (Name (text_at row column))) keys) (refused_at row column UnknownName)
 
 -- the same of a column that may be empty
-abbrev pub optional_reference_at : Record → ℕ → List (List ℕ) → Result (Option ℕ) Refusal
-optional_reference_at row column names =
-    if length (text_at row column) == 0 then Ok None else reference_at row column names >>= λ number. Ok (Some number)
-
--- whether two pairs of names are the same
-abbrev pub are_same_pair : List ℕ × List ℕ → List ℕ × List ℕ → Bool
-are_same_pair a b = bytes_eq a.0 b.0 && bytes_eq a.1 b.1
+abbrev pub optional_reference_at : Record → ℕ → List Known → Result (Option ℕ) Refusal
+optional_reference_at row column keys =
+    if length (text_at row column) == 0 then Ok None else reference_at row column keys >>= λ number. Ok (Some number)

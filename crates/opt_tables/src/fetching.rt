@@ -1,13 +1,13 @@
 ghost use Rattle.std.specs.Prelude.{◌≡◌, ◌≢◌, ℕ, List, Option, Some, Err, IfOk, string_bytes};
 ghost use Rattle.opt_base.specs.Answers.{each};
 ghost use Rattle.opt_base.specs.Outside.{Files as HeldFiles, HasCause, found_of};
-ghost use Rattle.opt_model.specs.Texts.{file_name};
 ghost use Rattle.opt_tables.specs.Files.{admitted, limit_of, path_of, fetch_of};
 ghost use Rattle.opt_tables.specs.Fetched.{got, with_got, all_got, IsGot, Fetched};
 
 use crate::fault::FetchFault;
 use crate::files::{Files, MODEL_FILES, is_required, limit, refused_file};
 use opt_base::{Blob, File, Found, GetFault, Kind, Shelf};
+use opt_model::file_name;
 use std::alloc::{AllocError, Global};
 
 /// Gets the model files of a folder, in the order settings.toml, commodities.csv, groups.csv, nutrients.csv,
@@ -96,29 +96,4 @@ fn path(alloc: Global, folder: &str, file: File) -> Result<String, AllocError>
 {
     let name = file_name(file);
     format!(in alloc; "{folder}/{name}")
-}
-
-/// The name of a file.
-fn file_name(file: File) -> &'static str
-    ensures { result.now ≡ file_name file }
-{
-    match file {
-        File::Settings => "settings.toml",
-        File::Commodities => "commodities.csv",
-        File::Groups => "groups.csv",
-        File::Nutrients => "nutrients.csv",
-        File::Contents => "contents.csv",
-        File::Places => "places.csv",
-        File::Offers => "offers.csv",
-        File::Arcs => "arcs.csv",
-        File::Persons => "persons.csv",
-        File::Stock => "stock.csv",
-        File::Baskets => "baskets.csv",
-        File::Needs => "needs.csv",
-        File::Model => "model",
-        File::Plan => "plan.csv",
-        File::Certificate => "certificate.txt",
-        File::Edits => "edits",
-        File::Executed => "executed.csv",
-    }
 }

@@ -175,15 +175,13 @@ pub(crate) fn is_required(file: File) -> bool
     )
 }
 
-/// How many bytes a model file may have. Groups, places, offers, arcs, persons and stock are not read yet.
+/// How many bytes a model file may have.
 pub(crate) fn limit(file: File) -> u64
     ensures { result ≡ limit_of file }
 {
     match file {
         File::Settings => SETTINGS_LIMIT,
-        File::Commodities | File::Nutrients | File::Contents | File::Baskets | File::Needs =>
-            TABLE_LIMIT,
-        _ => 0,
+        _ => TABLE_LIMIT,
     }
 }
 

@@ -1,17 +1,27 @@
 //! Reads the tables of a model: the files of a folder, and what they say or the first refusal.
 #![tactic(auto)]
 
+mod arcs;
 mod commodities;
 mod contents;
+mod diet;
 mod fault;
 mod fetching;
 mod files;
+mod grids;
+mod groups;
+mod key;
+mod keys;
 mod lines;
-mod names;
+mod link;
+mod network;
 mod nutrients;
-mod pairs;
+mod offers;
+mod persons;
+mod places;
 mod reading;
 mod row;
+mod stock;
 mod tables;
 #[cfg(test)]
 mod tests;

@@ -1,32 +1,44 @@
-ghost use Rattle.std.specs.Prelude.{◌≡◌, ◌+◌, ◌-◌, ◌^◌, ◌<◌, OnOk, length, slice_index_or};
+ghost use Rattle.std.specs.Prelude.{◌≡◌, ◌↔◌, ◌+◌, ◌-◌, ◌^◌, ◌<◌, [], IsTrue, OnOk, length, slice_index_or, slice_get, option_copied};
 ghost use Rattle.opt_base.specs.Answers.{Gives};
-ghost use Rattle.opt_tables.specs.Lines.{no_lines, with_line, lines_of};
+ghost use Rattle.opt_tables.specs.Records.{row_of};
+ghost use Rattle.opt_tables.specs.Lines.{no_lines, with_line, lines_of, lines_in};
 
-use crate::names::Names;
+use crate::key::Key;
+use crate::keys::Keys;
 use crate::row::Row;
 use opt_base::{File, Kind, ModelFault, Refusal};
 use opt_read::Cells;
 use std::alloc::Global;
 use std::marker::Model;
 
-/// What a record says but for its names.
+/// What a record says but for the records that it names.
 pub trait Line: Drop + Sized {
-    ghost use Rattle.std.specs.Prelude.{Result};
+    ghost use Rattle.std.specs.Prelude.{ℕ, Result};
     ghost use Rattle.opt_base.specs.declared.refusal.Refusal.{Refusal};
+    ghost use Rattle.opt_tables.specs.Keys.{Known, known_by};
     ghost use Rattle.opt_tables.specs.Records.{Record};
 
-    /// What a record says, or its first refusal.
-    ghost line_of: { Record → Result Self Refusal };
+    /// What a record says in a plan of so many months, or its first refusal.
+    ghost line_of: { ℕ → Record → Result Self Refusal };
 
-    /// What a record says, or its first refusal.
-    fn read(row: &Row<'_>) -> Result<Self, Refusal>
-        ensures { result ≡ line_of row.now };
+    /// What the record of a line is known by.
+    ghost key_of: { Record → Self → Known };
+
+    /// What a record says in a plan of so many months, or its first refusal.
+    fn read(row: &Row<'_>, months: u32) -> Result<Self, Refusal>
+        ensures { result ≡ line_of months row.now };
+
+    /// What the record is known by in its table.
+    fn key<'a>(&self, row: &Row<'a>) -> Key<'a>
+        ensures { known_by result ≡ key_of row.now self.now };
 }
 
-/// The lines of a table in file order, and the names of its records, each in the first column and found in constant time.
+/// The lines of a table in file order, and what its records are known by, each found in constant time.
 #[derive(Drop)]
 pub struct Lines<'a, L> {
-    names: Names<'a>,
+    file: File,
+    cells: &'a Cells,
+    keys: Keys<'a>,
     lines: Vec<L>,
 }
 
@@ -36,18 +48,20 @@ impl<'a, L> Model for Lines<'a, L> {
 
     ghost Value = { Table L };
 
-    ghost view = { λ table. record { names = table.names; lines = table.lines.items } };
+    ghost view = { λ table. record { file = table.file; rows = table.cells.now; keys = table.keys; lines = table.lines.items } };
 
-    ghost invariant = { λ table. (length table.lines.items ≤ length table.names) × (length table.lines.items < 2 ^ 32) };
+    ghost invariant = { λ table. (length table.lines.items ≤ length table.keys) × (length table.lines.items < 2 ^ 32) };
 }
 
 impl<'a, L: Drop> Lines<'a, L> {
-    /// No lines.
-    fn new(alloc: Global) -> Lines<'a, L>
-        ensures { result ≡ no_lines }
+    /// No lines of a table so far.
+    fn new(alloc: Global, file: File, cells: &'a Cells) -> Lines<'a, L>
+        ensures { result ≡ no_lines file cells.now }
     {
         Lines {
-            names: Names::new(alloc),
+            file,
+            cells,
+            keys: Keys::new(alloc),
             lines: Vec::new(alloc),
         }
     }
@@ -59,6 +73,13 @@ impl<'a, L: Drop> Lines<'a, L> {
         self.lines.len() as u32
     }
 
+    /// Whether the table has no record.
+    pub fn is_empty(&self) -> bool
+        ensures { IsTrue result ↔ (self.now.rows ≡ []) }
+    {
+        self.cells.is_empty()
+    }
+
     /// The line of this number, from 0.
     pub fn line(&self, number: u32) -> &L
         requires { number < length self.now.lines }
@@ -67,38 +88,73 @@ impl<'a, L: Drop> Lines<'a, L> {
         &self.lines[number as usize]
     }
 
-    /// The names of the records in file order.
-    pub fn names(&self) -> &Names<'a>
-        ensures { result.now ≡ self.now.names }
+    /// The line of this number, from 0, if there is one.
+    pub fn get(&self, number: u32) -> Option<&L>
+        ensures { option_copied result ≡ slice_get self.now.lines number }
     {
-        &self.names
+        self.lines.get(number as usize)
+    }
+
+    /// The record of the line of this number, from 0.
+    pub fn row(&self, number: u32) -> Row<'a>
+        requires { number < 2 ^ 32 - 1 }
+        ensures { result ≡ row_of self.now.file self.now.rows (number + 1) }
+    {
+        Row::new(self.cells, self.file, number + 1)
+    }
+
+    /// What the records are known by, in file order.
+    pub fn keys(&self) -> &Keys<'a>
+        ensures { result.now ≡ self.now.keys }
+    {
+        &self.keys
     }
 }
 
 impl<'a, L: Line> Lines<'a, L> {
-    /// The lines of a table.
-    pub fn read(alloc: Global, file: File, cells: &'a Cells) -> Result<Lines<'a, L>, ModelFault>
-        ensures { Gives (λ lines. lines) result (lines_of L.line_of file cells.now) }
+    /// The lines of a table, in a plan of so many months, unless the table is refused as it stands.
+    pub fn read(
+        alloc: Global,
+        file: File,
+        months: u32,
+        grid: &'a Result<Cells, Refusal>,
+    ) -> Result<Lines<'a, L>, ModelFault>
+        ensures { Gives (λ lines. lines) result (lines_in (L.line_of months) L.key_of file grid.now) }
     {
-        let mut lines = Lines::new(alloc);
+        match grid {
+            Ok(cells) => Lines::read_all(alloc, file, months, cells),
+            Err(refusal) => Err(ModelFault::Refused(*refusal)),
+        }
+    }
+
+    /// The lines of a table, in a plan of so many months.
+    fn read_all(
+        alloc: Global,
+        file: File,
+        months: u32,
+        cells: &'a Cells,
+    ) -> Result<Lines<'a, L>, ModelFault>
+        ensures { Gives (λ lines. lines) result (lines_of (L.line_of months) L.key_of file cells.now) }
+    {
+        let mut lines = Lines::new(alloc, file, cells);
         for i in 0..cells.len() {
-            lines.add(&Row::new(cells, file, i + 1))?;
+            lines.add(&Row::new(cells, file, i + 1), months)?;
         }
         Ok(lines)
     }
 
     /// Adds the line of one more record.
-    fn add(&mut self, row: &Row<'a>) -> Result<(), ModelFault>
-        requires { length self.old.names < 2 ^ 32 - 1 }
-        ensures read { Gives (λ _. self.new) result (with_line L.line_of row.now self.old) }
-        ensures more { OnOk result (length self.new.names ≡ length self.old.names + 1) }
+    fn add(&mut self, row: &Row<'a>, months: u32) -> Result<(), ModelFault>
+        requires { length self.old.keys < 2 ^ 32 - 1 }
+        ensures read { Gives (λ _. self.new) result (with_line (L.line_of months) L.key_of row.now self.old) }
+        ensures more { OnOk result (length self.new.keys ≡ length self.old.keys + 1) }
     {
-        let line = L::read(row)?;
-        let name = row.text(1);
-        if self.names.has(name) {
+        let line = L::read(row, months)?;
+        let key = line.key(row);
+        if self.keys.has(key) {
             return Err(ModelFault::Refused(row.refused(0, Kind::Duplicate)));
         }
-        self.names.add(name)?;
+        self.keys.add(key)?;
         self.lines.push(line)?;
         Ok(())
     }

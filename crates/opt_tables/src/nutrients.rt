@@ -1,15 +1,13 @@
 ghost use Rattle.std.specs.Prelude.{◌≡◌, IfOk};
-ghost use Rattle.opt_tables.specs.Nutrients.{nutrient_line_of, nutrients_of, needs_of};
+ghost use Rattle.opt_tables.specs.Diet.{needs_of};
 
+use crate::key::Key;
 use crate::lines::{Line, Lines};
-use crate::names::Names;
+use crate::link::{Link, TableLines};
 use crate::row::Row;
-use opt_base::Refusal;
+use opt_base::{ModelFault, Refusal};
 use opt_model::{Name, Need, Nutrient};
 use std::alloc::{AllocError, Global};
-
-/// The columns of nutrients.csv.
-pub const COLUMNS: &str = "nutrient,required,max_short,weight";
 
 /// What a record of nutrients.csv says but for the nutrient's name.
 #[derive(Clone, Copy, Debug, PartialEq, Eq)]
@@ -23,9 +21,14 @@ pub struct NutrientLine {
 }
 
 impl Line for NutrientLine {
-    ghost line_of = { nutrient_line_of };
+    ghost use Rattle.opt_tables.specs.Lines.{name_key};
+    ghost use Rattle.opt_tables.specs.Diet.{nutrient_line_of};
 
-    fn read(row: &Row<'_>) -> Result<NutrientLine, Refusal> {
+    ghost line_of = { λ months. nutrient_line_of };
+
+    ghost key_of = { name_key };
+
+    fn read(row: &Row<'_>, _months: u32) -> Result<NutrientLine, Refusal> {
         row.name(1)?;
         Ok(NutrientLine {
             required: row.number(2, 0, 1_000_000_000)?,
@@ -33,18 +36,27 @@ impl Line for NutrientLine {
             weight: row.number(4, 0, 1_000_000)?,
         })
     }
+
+    fn key<'a>(&self, row: &Row<'a>) -> Key<'a> {
+        Key::Name(row.text(1))
+    }
 }
 
-/// The nutrients of these names.
-pub fn nutrients(alloc: Global, names: &Names<'_>) -> Result<Vec<Nutrient>, AllocError>
-    ensures { IfOk result (λ nutrients. nutrients.items ≡ nutrients_of names.now) }
-{
-    let mut nutrients = Vec::new(alloc);
-    for i in 0..names.len() {
-        let nutrient = Name::new(alloc, names.name(i))?;
-        nutrients.push(Nutrient { nutrient })?;
+impl Link<Nutrient> for NutrientLine {
+    ghost use Rattle.opt_tables.specs.Diet.{nutrient_of};
+
+    ghost record_of = { λ tables. nutrient_of };
+
+    fn link(
+        &self,
+        alloc: Global,
+        row: &Row<'_>,
+        _tables: &TableLines<'_>,
+    ) -> Result<Nutrient, ModelFault> {
+        Ok(Nutrient {
+            nutrient: Name::new(alloc, row.text(1))?,
+        })
     }
-    Ok(nutrients)
 }
 
 /// What the first basket must give of each nutrient.

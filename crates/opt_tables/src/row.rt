@@ -3,10 +3,11 @@ ghost use Rattle.std.specs.Char.{is_ascii_digit};
 ghost use Rattle.std.specs.List.{list_all};
 ghost use Rattle.std.specs.Str.Parse.{digits_value};
 ghost use Rattle.opt_base.specs.Answers.{Reads};
-ghost use Rattle.opt_tables.specs.Records.{row_of, refused_at, text_at, reference_at, optional_reference_at, optional_name_at, name_at, is_number, number_at};
+ghost use Rattle.opt_tables.specs.Records.{row_of, refused_at, text_at, reference_at, optional_reference_at, optional_name_at, name_at, is_number, number_at, optional_number_at, kind_named, kind_at};
 
-use crate::names::Names;
+use crate::keys::Keys;
 use opt_base::{File, Kind, Refusal};
+use opt_model::PlaceKind;
 use opt_read::Cells;
 use std::marker::Model;
 
@@ -101,24 +102,54 @@ impl<'a> Row<'a> {
         Ok(number)
     }
 
-    /// The number of the record that a column names, from 0, among the names of a table.
-    pub fn reference(&self, column: u8, names: &Names<'_>) -> Result<u32, Refusal>
-        ensures { result ≡ reference_at self.now column names.now }
-    {
-        names
-            .find(self.text(column))
-            .ok_or(self.refused(column, Kind::UnknownName))
-    }
-
     /// The same of a column that may be empty.
-    pub fn optional_reference(&self, column: u8, names: &Names<'_>) -> Result<Option<u32>, Refusal>
-        ensures { result ≡ optional_reference_at self.now column names.now }
+    pub fn optional_number(&self, column: u8, low: u32, high: u32) -> Result<Option<u32>, Refusal>
+        ensures { result ≡ optional_number_at self.now column low high }
     {
         if self.text(column).is_empty() {
             return Ok(None);
         }
-        let number = self.reference(column, names)?;
+        let number = self.number(column, low, high)?;
         Ok(Some(number))
+    }
+
+    /// The kind of place that a column names.
+    pub fn place_kind(&self, column: u8) -> Result<PlaceKind, Refusal>
+        ensures { result ≡ kind_at self.now column }
+    {
+        kind_named(self.text(column)).ok_or(self.refused(column, Kind::UnknownName))
+    }
+
+    /// The number of the record that a column names, from 0, among the keys of a table.
+    pub fn reference(&self, column: u8, keys: &Keys<'_>) -> Result<u32, Refusal>
+        ensures { result ≡ reference_at self.now column keys.now }
+    {
+        keys.find(self.text(column))
+            .ok_or(self.refused(column, Kind::UnknownName))
+    }
+
+    /// The same of a column that may be empty.
+    pub fn optional_reference(&self, column: u8, keys: &Keys<'_>) -> Result<Option<u32>, Refusal>
+        ensures { result ≡ optional_reference_at self.now column keys.now }
+    {
+        if self.text(column).is_empty() {
+            return Ok(None);
+        }
+        let number = self.reference(column, keys)?;
+        Ok(Some(number))
+    }
+}
+
+/// The kind of place that a word names.
+fn kind_named(word: &str) -> Option<PlaceKind>
+    ensures { result ≡ kind_named word.now }
+{
+    match word {
+        "supplier" => Some(PlaceKind::Supplier),
+        "port" => Some(PlaceKind::Port),
+        "hub" => Some(PlaceKind::Hub),
+        "point" => Some(PlaceKind::Point),
+        _ => None,
     }
 }
 

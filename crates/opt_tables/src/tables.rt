@@ -1,5 +1,7 @@
 ghost use Rattle.std.specs.Prelude.{◌≡◌};
 
+use crate::diet::DietRecords;
+use crate::network::NetworkRecords;
 use opt_model::{
     Arc, Basket, Commodity, Content, Group, Name, Need, Nutrient, Offer, Persons, Place, Stock,
 };
@@ -34,36 +36,34 @@ impl Model for Tables {
 }
 
 impl Tables {
-    ghost use Rattle.std.specs.Prelude.{[], ◌∷◌, IfOk};
-    ghost use Rattle.opt_tables.specs.Model.{only_basket};
+    ghost use Rattle.std.specs.Prelude.{IfOk};
+    ghost use Rattle.opt_tables.specs.Model.{tables_with};
 
-    /// The tables of one basket, without a network.
-    pub(crate) fn basket(
+    /// The tables of these records, with one basket.
+    pub(crate) fn new(
         alloc: Global,
         settings: Setup,
-        commodities: Vec<Commodity>,
-        nutrients: Vec<Nutrient>,
-        contents: Vec<Content>,
-        needs: Vec<Need>,
+        diet: DietRecords,
+        network: NetworkRecords,
     ) -> Result<Tables, AllocError>
-        ensures { IfOk result (λ tables. tables ≡ record { settings = settings; commodities = commodities.items; groups = []; nutrients = nutrients.items; contents = contents.items; places = []; offers = []; arcs = []; persons = []; stock = []; baskets = only_basket ∷ []; needs = needs.items }) }
+        ensures { IfOk result (λ tables. tables ≡ tables_with settings diet network) }
     {
         let basket = Name::new(alloc, "all")?;
         let mut baskets = Vec::new(alloc);
         baskets.push(Basket { basket })?;
         Ok(Tables {
             settings,
-            commodities,
-            groups: Vec::new(alloc),
-            nutrients,
-            contents,
-            places: Vec::new(alloc),
-            offers: Vec::new(alloc),
-            arcs: Vec::new(alloc),
-            persons: Vec::new(alloc),
-            stock: Vec::new(alloc),
+            commodities: diet.commodities,
+            groups: diet.groups,
+            nutrients: diet.nutrients,
+            contents: diet.contents,
+            places: network.places,
+            offers: network.offers,
+            arcs: network.arcs,
+            persons: network.persons,
+            stock: network.stock,
             baskets,
-            needs,
+            needs: diet.needs,
         })
     }
 

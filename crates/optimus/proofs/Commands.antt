@@ -1,17 +1,16 @@
 -- What was got of a folder gives the folder's answer.
-use Rattle.std.proofs.Common.{◌≡◌, ◌≢◌, ℕ, ◌≤◌, Bool, true, false, cond, List, Some, None, Result, Ok, Err, int_le, ℤ, pos, refl, arith, lit≤}
+use Rattle.std.proofs.Common.{◌≡◌, ◌≢◌, ℕ, ◌≤◌, List, Result, Ok, Err, refl, arith, lit≤}
 use Rattle.opt_base.specs.Answers.{◌>>=◌}
 use Rattle.opt_base.specs.Outside.{Files}
 use Rattle.opt_base.specs.declared.refusal.Refusal.{Refusal}
 use Rattle.opt_model.specs.Tables.{Tables}
-use Rattle.opt_model.specs.declared.verdict.Verdict.TheVariants as verdict
 use Rattle.opt_tables.specs.Files.{ModelFiles, all_checked, files_in, fetch_of}
 use Rattle.opt_tables.specs.Model.{tables_of}
-use Rattle.optimus.specs.First.{first_verdict, first_lack, has_first}
-use Rattle.optimus.specs.Plan.{answer_of, model_in, status_of}
+use Rattle.optimus.specs.Plan.{answer_of, model_in}
+use Rattle.optimus.proofs.Candidates.{status_of_verdict_for}
 
 -- a fold of a check and a value: the value, or the check's refusal
-checked_ok : {A B : Type 0} (r : Result A Refusal) (x y : B) → (r >>= λ z. Ok x) ≡ Ok y → y ≡ x
+pub checked_ok : {A B : Type 0} (r : Result A Refusal) (x y : B) → (r >>= λ z. Ok x) ≡ Ok y → y ≡ x
 checked_ok (Ok z) x y e = cc
 checked_ok (Err f) x y e = absurd cc
 
@@ -31,20 +30,7 @@ fetched_refused held folder refusal e =
     let check : all_checked files ≡ Err refusal = checked_err (all_checked files) files refusal e in
     rw check refl
 
--- a number that is 0 or 2
-abbrev IsEnd : ℕ → Type 0
-IsEnd n = (n ≤ 2) × (n ≢ 1)
-
-status_of_first : (a b : Bool) (lack : ℤ) → IsEnd (status_of (cond a (cond b (verdict.Plan lack (pos 0)) (verdict.Unfinished (pos 0) (Some lack))) (verdict.Unfinished (pos 0) None)))
-status_of_first true true lack = (lit≤ tt, λ e. cc)
-status_of_first true false lack = (lit≤ tt, λ e. cc)
-status_of_first false b lack = (lit≤ tt, λ e. cc)
-
--- the status of the first verdict is 0 or 2
-pub status_of_first_verdict : (t : Tables) → (status_of (first_verdict t) ≤ 2) × (status_of (first_verdict t) ≢ 1)
-status_of_first_verdict t = status_of_first (has_first t) (int_le (first_lack t) t.settings.gap) (first_lack t)
-
 -- the status of an answer is 0, 2 or 3
 pub status_of_answer : (folder : List ℕ) (m : Result Tables Refusal) → ((answer_of folder m).status ≤ 3) × ((answer_of folder m).status ≢ 1)
-status_of_answer folder (Ok t) = (let at_most = (status_of_first_verdict t).0 in omega arith, (status_of_first_verdict t).1)
+status_of_answer folder (Ok t) = (let at_most = (status_of_verdict_for t).0 in omega arith, (status_of_verdict_for t).1)
 status_of_answer folder (Err refusal) = (lit≤ tt, λ e. cc)

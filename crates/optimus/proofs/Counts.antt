@@ -21,6 +21,7 @@ use Rattle.opt_model.specs.declared.quantity.RowName.TheVariants as row
 use Rattle.opt_model.proofs.Sums.{length-over_one, over-empty}
 use Rattle.opt_sums.proofs.Ring.{mul_le}
 use Rattle.optimus.specs.OneBasket.{IsOneBasket, IsNeedOf}
+use Rattle.optimus.specs.Candidate.{basket_part}
 use Rattle.optimus.proofs.OneBasket.{rations_in, shorts_in, need_row, names_are, rows_are, costs_nothing}
 use Rattle.optimus.proofs.FirstPlan.{of_record_at}
 use Rattle.optimus.proofs.Counting.{bit, sum_from-same, sum_from-add, sum_from-ones, one_from, count_by_key, count_by-same, sum_by-over, length-given_over, weight_of, one_weighs}
@@ -193,3 +194,13 @@ terms_are t one =
     ))) in
     ap (sum_by size) (rows_are t one) ∙ (sum_by-append size (over t.needs (need_row t)) (budget_rows t t.settings.budget)
     ∙ omega (arith, of_needs, budget_counts t one t.settings.budget))
+
+-- the same of the basket of a model, by the model's own tables
+pub quantities_of_basket : (t : Tables) → IsOneBasket (basket_part t) → length (names (basket_part t)) ≡ length t.commodities + length t.needs
+quantities_of_basket t one = quantities_are (basket_part t) one
+
+pub rows_of_basket : (t : Tables) → IsOneBasket (basket_part t) → length (rows (basket_part t)) ≡ length t.needs + cond (is_some t.settings.budget) 1 0
+rows_of_basket t one = rows_are_counted (basket_part t) one
+
+pub terms_of_basket : (t : Tables) → IsOneBasket (basket_part t) → term_count (basket_part t) ≡ count_by (λ r. int_lt (pos 0) r.per_100g) t.contents + length t.needs
+terms_of_basket t one = terms_are (basket_part t) one

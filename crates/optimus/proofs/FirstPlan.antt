@@ -7,11 +7,10 @@ use Rattle.std.proofs.lemmas.List.Elements.{All-append}
 use Rattle.std.proofs.lemmas.List.Folds.{list_any-append, Any-from_list_any}
 use Rattle.std.proofs.lemmas.List.Sums.{AllPass-from_list_all}
 use Rattle.std.specs.List.{flat_map, enumerate_from, range_with_len, list_any}
-use Rattle.std.specs.Int.Signed.{≤ℤ_refl}
 use Rattle.opt_model.specs.Tables.{Tables}
 use Rattle.opt_model.specs.Quantities.{over, names, low, high, same_quantity, of_record, most_steps, least_steps, ceil_div, sum_over, given, step_of}
 use Rattle.opt_model.specs.Rows.{nutrient_terms, budget_rows, cost_terms, negated}
-use Rattle.opt_model.specs.Plans.{Plan, sum_of, Holds, Feasible, Below, goal_of, goal_terms}
+use Rattle.opt_model.specs.Plans.{Plan, sum_of, Holds, Feasible, goal_of, goal_terms}
 use Rattle.opt_model.specs.Verdicts.{Attains, IsTrueVerdict}
 use Rattle.opt_model.specs.declared.verdict.Verdict.TheVariants as verdict
 use Rattle.opt_model.specs.declared.records.Commodity.{Commodity}
@@ -22,9 +21,10 @@ use Rattle.opt_model.specs.declared.quantity.Quantity.TheVariants.{Ration, Short
 use Rattle.opt_model.proofs.Quantities.{same_quantity-self, same_quantity-true}
 use Rattle.opt_model.proofs.Feasibility.{le_from_test}
 use Rattle.opt_model.proofs.Sums.{sum_of-append, list_any-over, All-over}
-use Rattle.opt_sums.proofs.Ring.{mul_assoc, mul_le, mul_neg, mul_sub}
+use Rattle.opt_sums.proofs.Ring.{mul_assoc, mul_le, mul_neg}
 use Rattle.optimus.specs.OneBasket.{IsOneBasket, IsNeed, IsContent, IsNeedOf}
 use Rattle.optimus.specs.First.{greatest_grams, given_by, given_of, least_short_beside, least_short, first_value, first_plan, has_first, first_lack, first_verdict}
+use Rattle.optimus.proofs.BelowZero.{nothing_below_zero}
 use Rattle.optimus.proofs.OneBasket.{rations_in, shorts_in, need_row, names_are, rows_are, costs_nothing}
 
 -- the ration of a commodity that is there exists
@@ -205,32 +205,13 @@ first_goal t one =
     goal_is t one (first_plan t)
     ∙ shortfalls_sum (first_plan t) (least_short t) 0 t.needs (λ i d h. subst (λ n. first_plan t (Short n 1) ≡ least_short t (get_or t.needs i d)) (sym (zero-add i)) (first_short t one i d h))
 
--- weighted shortfalls that are not negative are not negative together
-shortfalls_not_negative : (plan : Plan) (k : ℕ) (xs : List Need) → All IsNeed xs → ((i : ℕ) → i < length xs → pos 0 ≤ℤ plan (Short (k + i) 1))
-    → pos 0 ≤ℤ sum_of (flat_map (λ x. (Short x.0 1, x.1.weight) ∷ []) (enumerate_from k xs)) plan
-shortfalls_not_negative plan k [] h least = ≤ℤ_refl (pos 0)
-shortfalls_not_negative plan k (x ∷ xs) h least =
-    let here : pos 0 ≤ℤ plan (Short k 1) = subst (λ n. pos 0 ≤ℤ plan (Short n 1)) (add-zero k) (least 0 (omega arith)) in
-    let worth : (x.weight *ℤ pos 0) ≤ℤ (x.weight *ℤ plan (Short k 1)) = mul_le x.weight (pos 0) (plan (Short k 1)) (h 0 x (omega arith)).weight.above here in
-    let rest : pos 0 ≤ℤ sum_of (flat_map (λ x. (Short x.0 1, x.1.weight) ∷ []) (enumerate_from (k + 1) xs)) plan =
-    shortfalls_not_negative plan (k + 1) xs (λ i d m. h (suc i) d (omega arith)) (λ i m. subst (λ n. pos 0 ≤ℤ plan (Short n 1)) (omega arith) (least (suc i) (omega arith))) in
-    omega (arith, ints, worth, rest, mul_sub x.weight (pos 0) (pos 0))
-
--- no feasible plan's goal lies below 0
-pub nothing_below_zero : (t : Tables) → IsOneBasket t → Below t (pos 0)
-nothing_below_zero t one plan feasible =
-    let d : Need = record { basket = 0; nutrient = 0; required = pos 0; max_short = pos 0; weight = pos 0 } in
-    let low_of : (i : ℕ) → i < length t.needs → pos 0 ≤ℤ plan (Short (0 + i) 1) =
-    λ i h. subst (λ n. pos 0 ≤ℤ plan (Short n 1)) (sym (zero-add i)) (at_listed (Within t plan) (names t) (Short i 1) (short_is_listed t one i d h) feasible.in_range).0 in
-    subst (λ z. pos 0 ≤ℤ z) (sym (goal_is t one plan)) (shortfalls_not_negative plan 0 t.needs one.needs low_of)
-
 -- the first plan attains the weighted least shortfalls
 first_attains : (t : Tables) → IsOneBasket t → has_first t ≡ true → Attains t (first_plan t) (first_lack t)
 first_attains t one e = record { feasible = first_is_feasible t one e; objective_is = first_goal t one }
 
 -- they are not below 0
 first_lack-not_negative : (t : Tables) → IsOneBasket t → has_first t ≡ true → pos 0 ≤ℤ first_lack t
-first_lack-not_negative t one e = subst (λ z. pos 0 ≤ℤ z) (first_goal t one) (nothing_below_zero t one (first_plan t) (first_is_feasible t one e))
+first_lack-not_negative t one e = subst (λ z. pos 0 ≤ℤ z) (first_goal t one) (nothing_below_zero t one.goal one.needs (first_plan t) (first_is_feasible t one e))
 
 verdict_with_first : (t : Tables) → IsOneBasket t → has_first t ≡ true → (b : Bool) → int_le (first_lack t) t.settings.gap ≡ b
     → IsTrueVerdict t (cond b (verdict.Plan (first_lack t) (pos 0)) (verdict.Unfinished (pos 0) (Some (first_lack t)))) (first_plan t)
@@ -238,18 +219,18 @@ verdict_with_first t one e true f = record {
   attains = first_attains t one e;
   bound_under = omega (arith, ints, first_lack-not_negative t one e);
   gap_kept = omega (arith, ints, le_from_test (first_lack t) t.settings.gap f);
-  below = nothing_below_zero t one;
+  below = nothing_below_zero t one.goal one.needs;
 }
 verdict_with_first t one e false f = record {
   attains = first_attains t one e;
   bound_under = first_lack-not_negative t one e;
-  below = nothing_below_zero t one;
+  below = nothing_below_zero t one.goal one.needs;
 }
 
 verdict_by_first : (t : Tables) → IsOneBasket t → (b : Bool) → has_first t ≡ b
     → IsTrueVerdict t (cond b (cond (int_le (first_lack t) t.settings.gap) (verdict.Plan (first_lack t) (pos 0)) (verdict.Unfinished (pos 0) (Some (first_lack t)))) (verdict.Unfinished (pos 0) None)) (first_plan t)
 verdict_by_first t one true e = verdict_with_first t one e (int_le (first_lack t) t.settings.gap) refl
-verdict_by_first t one false e = nothing_below_zero t one
+verdict_by_first t one false e = nothing_below_zero t one.goal one.needs
 
 -- what the first form says of a model is true, with the first plan
 pub first_verdict_is_true : (t : Tables) → IsOneBasket t → IsTrueVerdict t (first_verdict t) (first_plan t)

@@ -1,5 +1,7 @@
 mod OneBasket
+mod BelowZero
 mod FirstPlan
+mod Candidates
 mod Rounding
 mod Given
 mod PlanFile

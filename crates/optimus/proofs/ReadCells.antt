@@ -1,9 +1,9 @@
 -- What is known of a cell and of a file that are read.
-use Rattle.std.proofs.Common.{◌≡◌, ◌≤◌, ℕ, ◌+◌, ◌-◌, ◌<◌, ◌^◌, cond, List, [], length, get_or, nat_le, Option, Some, None, unwrap_or, Result, Ok, Err, ap, ◌∙◌, subst, arith}
+use Rattle.std.proofs.Common.{◌≡◌, ◌≤◌, ℕ, ◌+◌, ◌-◌, ◌<◌, ◌^◌, cond, List, [], length, get_or, nat_le, Option, Some, None, unwrap_or, Result, Ok, Err, true, refl, sym, ap, ◌∙◌, subst, arith}
 use Rattle.std.specs.Prelude.{◌&&◌, position, bytes_eq}
 use Rattle.std.specs.Option.{ok_or}
 use Rattle.std.specs.Str.Parse.{digits_value}
-use Rattle.std.proofs.lemmas.Bool.{and_parts, leb-true, cond-true, lt-ltb}
+use Rattle.std.proofs.lemmas.Bool.{and_parts, and_from, leb-true, cond-true, lt-ltb}
 use Rattle.std.proofs.lemmas.List.Quantifiers.{position-Some}
 use Rattle.std.proofs.lemmas.Slice.Eq.{bytes_eq-Decides}
 use Rattle.opt_base.specs.declared.refusal.File.{File}
@@ -12,6 +12,7 @@ use Rattle.opt_base.specs.declared.refusal.Kind.TheVariants.{BadNumber, OutOfRan
 use Rattle.opt_base.specs.declared.refusal.Refusal.{Refusal}
 use Rattle.opt_base.proofs.Made.{bind_ok, when_ok}
 use Rattle.opt_read.specs.Grid.{record_at}
+use Rattle.opt_tables.specs.Keys.{Known, Name, Names, NameInMonth, NamesInMonth, are_same}
 use Rattle.opt_tables.specs.Records.{Record, refused_at, text_at, is_number, number_at, reference_at}
 use Rattle.opt_tables.specs.Files.{ModelFiles, bytes_of, limit_of, refused_file, checked, all_checked}
 
@@ -25,20 +26,37 @@ number_within row column low high n e =
     let same : value ≡ n = cc (within.1) in
     subst (λ m. (low ≤ m) × (m ≤ high)) same (leb-true low value both.0, leb-true value high both.1)
 
--- the number of a name among names: it is one of them, and the name stands there
-pub record Names (names : List (List ℕ)) (name : List ℕ) (number : ℕ) : Type 0 where
-  pub there : number < length names
-  pub is : name ≡ get_or names number []
-
 was_there : {A E : Type 0} (found : Option A) (fault : E) (x : A) → ok_or found fault ≡ Ok x → found ≡ Some x
 was_there None fault x e = cc
 was_there (Some y) fault x e = let same : y ≡ x = cc in ap Some same
 
-pub reference_names : (row : Record) (column : ℕ) (names : List (List ℕ)) (number : ℕ) → reference_at row column names ≡ Ok number → Names names (text_at row column) number
-reference_names row column names number e =
-    let found = was_there (position (bytes_eq (text_at row column)) names) (refused_at row column UnknownName) number e in
-    let at = position-Some (bytes_eq (text_at row column)) names number [] found in
-    record { there = at.0; is = (bytes_eq-Decides (text_at row column) (get_or names number [])).0 at.1 }
+-- the number of a record that is named, among those that are known by their names
+pub record IsReference (keys : List Known) (name : List ℕ) (number : ℕ) : Type 0 where
+  pub there : number < length keys
+  pub is : (d : Known) → are_same (Name name) (get_or keys number d) ≡ true
+
+pub reference_is : (row : Record) (column : ℕ) (keys : List Known) (number : ℕ) → reference_at row column keys ≡ Ok number → IsReference keys (text_at row column) number
+reference_is row column keys number e =
+    let found = was_there (position (are_same (Name (text_at row column))) keys) (refused_at row column UnknownName) number e in
+    record {
+      there = (position-Some (are_same (Name (text_at row column))) keys number (Name []) found).0;
+      is = λ d. (position-Some (are_same (Name (text_at row column))) keys number d found).1;
+    }
+
+-- a name that is the same as a key is that key
+name_is : (name : List ℕ) (key : Known) → are_same (Name name) key ≡ true → key ≡ Name name
+name_is name (Name other) e = ap Name (sym ((bytes_eq-Decides name other).0 e))
+name_is name (Names first second) e = cc
+name_is name (NameInMonth other month) e = cc
+name_is name (NamesInMonth first second month) e = cc
+
+-- two names that are the same as one key are one name
+pub one_name : (first second : List ℕ) (key : Known) → are_same (Name first) key ≡ true → are_same (Name second) key ≡ true → first ≡ second
+one_name first second key e f = let same : Name first ≡ Name second = sym (name_is first key e) ∙ name_is second key f in cc
+
+-- two names are the same as themselves
+pub same_as_itself : (first second : List ℕ) → are_same (Names first second) (Names first second) ≡ true
+same_as_itself first second = and_from (bytes_eq first first) (bytes_eq second second) ((bytes_eq-Decides first first).1 refl) ((bytes_eq-Decides second second).1 refl)
 
 -- the fields of a record by its number, from 1
 pub record_is : (rows : List (List (List ℕ))) (k : ℕ) → record_at rows (1 + k) ≡ get_or rows k []

@@ -1,22 +1,20 @@
 -- What is known of the lines of tables that are read.
-use Rattle.std.proofs.Common.{◌≡◌, ◌≤◌, ℕ, ◌*◌, ◌/◌, ◌<◌, true, false, List, [], ◌∷◌, ◌++◌, length, get_or, nat_lt, Result, Ok, refl, sym, ap, ◌∙◌, subst, arith}
-use Rattle.std.specs.Prelude.{All, bytes_eq, slice_index_or, ◌==◌}
+use Rattle.std.proofs.Common.{◌≡◌, ◌≤◌, ℕ, ◌*◌, ◌/◌, ◌<◌, ◌^◌, false, List, [], ◌∷◌, ◌++◌, length, get_or, nat_lt, Result, Ok, refl, sym, ap, ◌∙◌, subst, arith}
+use Rattle.std.specs.Prelude.{All, ◌==◌}
 use Rattle.std.specs.List.{list_any, AllPairs}
-use Rattle.std.proofs.lemmas.Bool.{ltb-false, both_ways, and_from}
+use Rattle.std.proofs.lemmas.Bool.{ltb-false, both_ways, false_from_ne_true}
 use Rattle.std.proofs.lemmas.List.Folds.{list_any_at}
 use Rattle.std.proofs.lemmas.List.Quantifiers.{all_pairs_push}
-use Rattle.std.proofs.lemmas.Slice.Eq.{bytes_eq-Decides}
 use Rattle.opt_base.specs.declared.refusal.File.{File}
 use Rattle.opt_base.specs.declared.refusal.File.TheVariants.{Commodities, Nutrients, Contents}
 use Rattle.opt_base.specs.declared.refusal.Kind.TheVariants.{Duplicate, NoStepInRange, EmptyTable}
 use Rattle.opt_base.specs.declared.refusal.Refusal.{Refusal}
 use Rattle.opt_base.proofs.Made.{bind_ok, unless_ok, each_keeps, each_adds, Added, Gained}
-use Rattle.opt_tables.specs.Records.{Record, refused_at, text_at, name_at, optional_name_at, number_at, are_same_pair}
+use Rattle.opt_tables.specs.Keys.{Known, are_same}
+use Rattle.opt_tables.specs.Records.{Record, refused_at, name_at, optional_name_at, number_at}
 use Rattle.opt_tables.specs.Files.{refused_file}
-use Rattle.opt_tables.specs.Lines.{Lines, no_lines, with_record, lines_of}
-use Rattle.opt_tables.specs.Commodities.{commodity_line_of, commodity_lines_of}
-use Rattle.opt_tables.specs.Nutrients.{nutrient_line_of}
-use Rattle.opt_tables.specs.Contents.{ContentLines, no_contents, content_line_of, with_content_record, content_lines_of}
+use Rattle.opt_tables.specs.Lines.{Lines, no_lines, with_record, lines_of, lines_in, name_key}
+use Rattle.opt_tables.specs.Diet.{commodity_line_of, with_some, commodity_lines_in, nutrient_line_of, content_line_of, content_key}
 use Rattle.opt_tables.specs.declared.commodities.CommodityLine.{CommodityLine}
 use Rattle.opt_tables.specs.declared.nutrients.NutrientLine.{NutrientLine}
 use Rattle.opt_tables.specs.declared.contents.ContentLine.{ContentLine}
@@ -79,115 +77,95 @@ content_line_is row line e =
     let same : record { per_100g = per_100g.0 } ≡ line = cc (per_100g.2) in
     subst IsContentLine same (number_within row 3 0 1000000 per_100g.0 per_100g.1).1
 
-module _ {L : Type 0} (line_of : Record → Result L Refusal) (Q : L → Type 0) (is : (row : Record) (line : L) → line_of row ≡ Ok line → Q line) where
-  -- one more line and its name
-  more_lines : (file : File) (number : ℕ) (x : List (List ℕ)) (made more : Lines L) → with_record line_of file number x made ≡ Ok more
-      → Added (λ number x line. Q line) number made.lines more.lines x × Added (λ number x name. Unit {0}) number made.names more.names x
-  more_lines file number x made more e =
+-- the key of a record of these fields
+pub record IsKeyOf {L : Type 0} (key_of : Record → L → Known) (fields : List (List ℕ)) (key : Known) : Type 0 where
+  pub row : Record
+  pub line : L
+  pub has : row.fields ≡ fields
+  pub is : key ≡ key_of row line
+
+-- keys of which no two are the same
+abbrev pub AreApart : List Known → Type 0
+AreApart keys = AllPairs (λ earlier later. are_same later earlier ≡ false) keys
+
+-- the lines of a table: one, and a key, for each of its records
+pub record HasLines {L : Type 0} (Q : L → Type 0) (key_of : Record → L → Known) (all : Lines L) : Type 0 where
+  pub lines : length all.lines ≡ length all.rows
+  pub keys : length all.keys ≡ length all.rows
+  pub each : All Q all.lines
+  pub key : (k : ℕ) (d : Known) → k < length all.rows → IsKeyOf key_of (get_or all.rows k []) (get_or all.keys k d)
+  pub apart : AreApart all.keys
+  pub few : length all.rows ≤ 2 ^ 24
+
+-- a table has at most 2 ^ 24 records
+abbrev pub AreFew : Result (List (List (List ℕ))) Refusal → Type 0
+AreFew grid = (rows : List (List (List ℕ))) → grid ≡ Ok rows → length rows ≤ 2 ^ 24
+
+apart_more : (keys : List Known) (key : Known) → list_any (are_same key) keys ≡ false → AreApart keys → AreApart (keys ++ key ∷ [])
+apart_more keys key none apart =
+    all_pairs_push (λ earlier later. are_same later earlier ≡ false) keys key apart
+    (λ k d within. false_from_ne_true _ (λ same. both_ways (list_any (are_same key) keys) none (list_any_at (are_same key) keys k d within same)))
+
+module _ {L : Type 0} (line_of : Record → Result L Refusal) (key_of : Record → L → Known) (Q : L → Type 0) (is : (row : Record) (line : L) → line_of row ≡ Ok line → Q line) where
+  -- one more line and its key
+  record NextLine (number : ℕ) (x : List (List ℕ)) (made more : Lines L) : Type 0 where
+    rows : made.rows ≡ more.rows
+    line : Added (λ number x line. Q line) number made.lines more.lines x
+    key : Added (λ number x key. IsKeyOf key_of x key) number made.keys more.keys x
+    apart : AreApart made.keys → AreApart more.keys
+
+  next_line : (file : File) (number : ℕ) (x : List (List ℕ)) (made more : Lines L) → with_record line_of key_of file number x made ≡ Ok more → NextLine number x made more
+  next_line file number x made more e =
       let row : Record = record { file = file; number = number; fields = x } in
       let line = bind_ok (line_of row) _ more e in
-      let next : Lines L = record { names = made.names ++ text_at row 1 ∷ []; lines = made.lines ++ line.0 ∷ [] } in
-      let new = unless_ok (list_any (bytes_eq (text_at row 1)) made.names) (Ok next) (refused_at row 0 Duplicate) more line.2 in
-      let same : next ≡ more = cc (new.1) in (
-        record { one = line.0; joined = ap (λ (lines : Lines L). lines.lines) (sym same); at = is row line.0 line.1 },
-        record { one = text_at row 1; joined = ap (λ (lines : Lines L). lines.names) (sym same); at = tt },
-      )
+      let key : Known = key_of row line.0 in
+      let next : Lines L = record { file = made.file; rows = made.rows; keys = made.keys ++ key ∷ []; lines = made.lines ++ line.0 ∷ [] } in
+      let new = unless_ok (list_any (are_same key) made.keys) (Ok next) (refused_at row 0 Duplicate) more line.2 in
+      let same : next ≡ more = cc (new.1) in
+      record {
+        rows = ap (λ (lines : Lines L). lines.rows) same;
+        line = record { one = line.0; joined = ap (λ (lines : Lines L). lines.lines) (sym same); at = is row line.0 line.1 };
+        key = record { one = key; joined = ap (λ (lines : Lines L). lines.keys) (sym same); at = record { row = row; line = line.0; has = refl; is = refl } };
+        apart = λ apart. subst (λ (lines : Lines L). AreApart lines.keys) same (apart_more made.keys key new.0 apart);
+      }
 
-  -- as many lines and names as records, each in its ranges
-  pub lines_are : (file : File) (rows : List (List (List ℕ))) (all : Lines L) → lines_of line_of file rows ≡ Ok all
-      → Gained (λ number x line. Q line) 1 [] all.lines rows × Gained (λ number x name. Unit {0}) 1 [] all.names rows
-  lines_are file rows all e = (
-    each_adds (with_record line_of file) (λ lines. lines.lines) (λ number x line. Q line) (λ number x made more f. (more_lines file number x made more f).0) 1 no_lines all rows e,
-    each_adds (with_record line_of file) (λ lines. lines.names) (λ number x name. Unit {0}) (λ number x made more f. (more_lines file number x made more f).1) 1 no_lines all rows e,
-  )
+  -- a line and a key for each record
+  pub lines_are : (file : File) (rows : List (List (List ℕ))) (all : Lines L) → length rows ≤ 2 ^ 24 → lines_of line_of key_of file rows ≡ Ok all → HasLines Q key_of all
+  lines_are file rows all few e =
+      let step : ℕ → List (List ℕ) → Lines L → Result (Lines L) Refusal = with_record line_of key_of file in
+      let kept : rows ≡ all.rows =
+      each_keeps step (λ made. rows ≡ made.rows) (λ number x made more f same. same ∙ (next_line file number x made more f).rows) 1 (no_lines file rows) all rows e refl in
+      let lines : Gained (λ number x line. Q line) 1 [] all.lines rows =
+      each_adds step (λ made. made.lines) (λ number x line. Q line) (λ number x made more f. (next_line file number x made more f).line) 1 (no_lines file rows) all rows e in
+      let keys : Gained (λ number x key. IsKeyOf key_of x key) 1 [] all.keys rows =
+      each_adds step (λ made. made.keys) (λ number x key. IsKeyOf key_of x key) (λ number x made more f. (next_line file number x made more f).key) 1 (no_lines file rows) all rows e in
+      record {
+        lines = ap length lines.joined ∙ (lines.long ∙ ap length kept);
+        keys = ap length keys.joined ∙ (keys.long ∙ ap length kept);
+        each = subst (All Q) (sym lines.joined) (λ k d within. lines.at k [] d (omega (arith, lines.long)));
+        key = λ k d within.
+            subst (λ rs. IsKeyOf key_of (get_or rs k []) (get_or all.keys k d)) kept
+            (subst (λ ks. IsKeyOf key_of (get_or rows k []) (get_or ks k d)) (sym keys.joined) (keys.at k [] d (subst (λ (rs : List (List (List ℕ))). k < length rs) (sym kept) within)));
+        apart = each_keeps step (λ made. AreApart made.keys) (λ number x made more f apart. (next_line file number x made more f).apart apart) 1 (no_lines file rows) all rows e
+            (λ i j d before within. absurd (omega arith));
+        few = subst (λ (rs : List (List (List ℕ))). length rs ≤ 2 ^ 24) kept few;
+      }
 
--- the lines of a table that has this many records
-pub record HasLines {L : Type 0} (Q : L → Type 0) (all : Lines L) (records : ℕ) : Type 0 where
-  pub names : length all.names ≡ records
-  pub lines : length all.lines ≡ records
-  pub each : All Q all.lines
+  -- the same of a table that may be refused as it stands
+  pub read_lines_are : (file : File) (grid : Result (List (List (List ℕ))) Refusal) (all : Lines L) → AreFew grid → lines_in line_of key_of file grid ≡ Ok all → HasLines Q key_of all
+  read_lines_are file grid all few e =
+      let rows = bind_ok grid (lines_of line_of key_of file) all e in
+      lines_are file rows.0 all (few rows.0 rows.1) rows.2
 
-has_lines : {L : Type 0} (Q : L → Type 0) (all : Lines L) (rows : List (List (List ℕ)))
-    → Gained (λ number x line. Q line) 1 [] all.lines rows → Gained (λ number x name. Unit {0}) 1 [] all.names rows → HasLines Q all (length rows)
-has_lines Q all rows lines names = record {
-  names = ap length names.joined ∙ names.long;
-  lines = ap length lines.joined ∙ lines.long;
-  each = subst (All Q) (sym lines.joined) (λ k d within. lines.at k [] d (omega (arith, lines.long)));
-}
-
-pub commodity_lines_are : (rows : List (List (List ℕ))) (all : Lines CommodityLine) → commodity_lines_of rows ≡ Ok all → HasLines IsCommodityLine all (length rows)
-commodity_lines_are rows all e =
-    let made = bind_ok (lines_of commodity_line_of Commodities rows) _ all e in
-    let some = unless_ok (length rows == 0) (Ok made.0) (refused_file Commodities EmptyTable) all made.2 in
+pub commodity_lines_are : (grid : Result (List (List (List ℕ))) Refusal) (all : Lines CommodityLine) → AreFew grid → commodity_lines_in grid ≡ Ok all → HasLines IsCommodityLine name_key all
+commodity_lines_are grid all few e =
+    let made = bind_ok (lines_in commodity_line_of name_key Commodities grid) with_some all e in
+    let some = unless_ok (length made.0.rows == 0) (Ok made.0) (refused_file Commodities EmptyTable) all made.2 in
     let same : made.0 ≡ all = cc (some.1) in
-    let are = lines_are commodity_line_of IsCommodityLine commodity_line_is Commodities rows made.0 made.1 in
-    subst (λ lines. HasLines IsCommodityLine lines (length rows)) same (has_lines IsCommodityLine made.0 rows are.0 are.1)
+    subst (HasLines IsCommodityLine name_key) same (read_lines_are commodity_line_of name_key IsCommodityLine commodity_line_is Commodities grid made.0 few made.1)
 
-pub nutrient_lines_are : (rows : List (List (List ℕ))) (all : Lines NutrientLine) → lines_of nutrient_line_of Nutrients rows ≡ Ok all → HasLines IsNutrientLine all (length rows)
-nutrient_lines_are rows all e =
-    let are = lines_are nutrient_line_of IsNutrientLine nutrient_line_is Nutrients rows all e in
-    has_lines IsNutrientLine all rows are.0 are.1
+pub nutrient_lines_are : (grid : Result (List (List (List ℕ))) Refusal) (all : Lines NutrientLine) → AreFew grid → lines_in nutrient_line_of name_key Nutrients grid ≡ Ok all → HasLines IsNutrientLine name_key all
+nutrient_lines_are grid all few e = read_lines_are nutrient_line_of name_key IsNutrientLine nutrient_line_is Nutrients grid all few e
 
--- the pair of names of a record of contents
-abbrev pub pair_of : List (List ℕ) → List ℕ × List ℕ
-pair_of fields = (slice_index_or fields 0 [], slice_index_or fields 1 [])
-
--- the lines of contents, no two of which have the same pair of names
-pub record HasContents (all : ContentLines) (rows : List (List (List ℕ))) : Type 0 where
-  pub lines : length all.lines ≡ length rows
-  pub pairs : length all.pairs ≡ length rows
-  pub each : All IsContentLine all.lines
-  pub pair : (k : ℕ) (d : List ℕ × List ℕ) → k < length rows → get_or all.pairs k d ≡ pair_of (get_or rows k [])
-  pub apart : AllPairs (λ a b. a ≡ b → ⊥) all.pairs
-
--- one more content
-record NextContent (number : ℕ) (x : List (List ℕ)) (made more : ContentLines) : Type 0 where
-  line : Added (λ number x line. IsContentLine line) number made.lines more.lines x
-  pair : Added (λ number x pair. pair ≡ pair_of x) number made.pairs more.pairs x
-  new : list_any (are_same_pair (pair_of x)) made.pairs ≡ false
-  pairs : made.pairs ++ pair_of x ∷ [] ≡ more.pairs
-
-next_content : (number : ℕ) (x : List (List ℕ)) (made more : ContentLines) → with_content_record number x made ≡ Ok more → NextContent number x made more
-next_content number x made more e =
-    let row : Record = record { file = Contents; number = number; fields = x } in
-    let line = bind_ok (content_line_of row) _ more e in
-    let next : ContentLines = record { pairs = made.pairs ++ pair_of x ∷ []; lines = made.lines ++ line.0 ∷ [] } in
-    let new = unless_ok (list_any (are_same_pair (pair_of x)) made.pairs) (Ok next) (refused_at row 0 Duplicate) more line.2 in
-    let same : next ≡ more = cc (new.1) in
-    record {
-      line = record { one = line.0; joined = ap (λ (lines : ContentLines). lines.lines) (sym same); at = content_line_is row line.0 line.1 };
-      pair = record { one = pair_of x; joined = ap (λ (lines : ContentLines). lines.pairs) (sym same); at = refl };
-      new = new.0;
-      pairs = ap (λ (lines : ContentLines). lines.pairs) same;
-    }
-
--- a pair is the same as itself
-same_pair : (a b : List ℕ × List ℕ) → b ≡ a → are_same_pair a b ≡ true
-same_pair a b e =
-    and_from (bytes_eq a.0 b.0) (bytes_eq a.1 b.1)
-    ((bytes_eq-Decides a.0 b.0).1 (ap (λ (p : List ℕ × List ℕ). p.0) (sym e)))
-    ((bytes_eq-Decides a.1 b.1).1 (ap (λ (p : List ℕ × List ℕ). p.1) (sym e)))
-
-apart_more : (pairs : List (List ℕ × List ℕ)) (pair : List ℕ × List ℕ) → list_any (are_same_pair pair) pairs ≡ false
-    → AllPairs (λ a b. a ≡ b → ⊥) pairs → AllPairs (λ a b. a ≡ b → ⊥) (pairs ++ pair ∷ [])
-apart_more pairs pair none apart =
-    all_pairs_push (λ a b. a ≡ b → ⊥) pairs pair apart
-    (λ k d within same. both_ways (list_any (are_same_pair pair) pairs) none (list_any_at (are_same_pair pair) pairs k d within (same_pair pair (get_or pairs k d) same)))
-
-pub content_lines_are : (rows : List (List (List ℕ))) (all : ContentLines) → content_lines_of rows ≡ Ok all → HasContents all rows
-content_lines_are rows all e =
-    let lines : Gained (λ number x line. IsContentLine line) 1 [] all.lines rows =
-    each_adds with_content_record (λ made. made.lines) (λ number x line. IsContentLine line) (λ number x made more f. (next_content number x made more f).line) 1 no_contents all rows e in
-    let pairs : Gained (λ number x pair. pair ≡ pair_of x) 1 [] all.pairs rows =
-    each_adds with_content_record (λ made. made.pairs) (λ number x pair. pair ≡ pair_of x) (λ number x made more f. (next_content number x made more f).pair) 1 no_contents all rows e in
-    record {
-      lines = ap length lines.joined ∙ lines.long;
-      pairs = ap length pairs.joined ∙ pairs.long;
-      each = subst (All IsContentLine) (sym lines.joined) (λ k d within. lines.at k [] d (omega (arith, lines.long)));
-      pair = λ k d within. subst (λ ps. get_or ps k d ≡ pair_of (get_or rows k [])) (sym pairs.joined) (pairs.at k [] d within);
-      apart = each_keeps with_content_record (λ made. AllPairs (λ a b. a ≡ b → ⊥) made.pairs)
-          (λ number x made more f apart.
-          let next = next_content number x made more f in
-          subst (AllPairs (λ a b. a ≡ b → ⊥)) next.pairs (apart_more made.pairs (pair_of x) next.new apart))
-          1 no_contents all rows e (λ i j d before within. absurd (omega arith));
-    }
+pub content_lines_are : (grid : Result (List (List (List ℕ))) Refusal) (all : Lines ContentLine) → AreFew grid → lines_in content_line_of content_key Contents grid ≡ Ok all → HasLines IsContentLine content_key all
+content_lines_are grid all few e = read_lines_are content_line_of content_key IsContentLine content_line_is Contents grid all few e

@@ -1,10 +1,11 @@
 -- The one plan that the first form weighs: the greatest rations, and for each need the least shortfall that meets its row.
-use Rattle.std.specs.Prelude.{◌≡◌, ◌<◌, length, take, slice_index_or, ℕ, Bool, cond, ◌==◌, if◌then◌else◌, List, map, Option, Some, None, ℤ, pos, ◌-ℤ◌, ◌*ℤ◌, int_le}
+use Rattle.std.specs.Prelude.{◌≡◌, ◌<◌, length, take, slice_index_or, ℕ, Bool, cond, ◌==◌, if◌then◌else◌, List, [], map, Option, Some, None, ℤ, pos, ◌-ℤ◌, ◌*ℤ◌, int_le}
 use Rattle.std.specs.List.{list_all, list_any}
 use Rattle.std.specs.Int.{int_max}
 use Rattle.opt_model.specs.Tables.{Tables}
 use Rattle.opt_model.specs.Quantities.{names, high, same_quantity, sum_over, of_record, most_steps, ceil_div}
 use Rattle.opt_model.specs.Plans.{Plan}
+use Rattle.opt_model.specs.Texts.{plan_text}
 use Rattle.opt_model.specs.declared.records.Commodity.{Commodity}
 use Rattle.opt_model.specs.declared.records.Content.{Content}
 use Rattle.opt_model.specs.declared.records.Need.{Need}
@@ -66,11 +67,19 @@ weighted t need = need.weight *ℤ least_short t need
 abbrev pub first_lack : Tables → ℤ
 first_lack t = sum_over t.needs (weighted t)
 
+-- no plan is known
+abbrev pub none_known : Verdict
+none_known = verdict.Unfinished (pos 0) None
+
 -- what the first form says of a model, with the bound 0: the first plan, where its goal is at most the gap
 abbrev pub first_verdict : Tables → Verdict
 first_verdict t =
     if has_first t then (if int_le (first_lack t) t.settings.gap then verdict.Plan (first_lack t) (pos 0) else verdict.Unfinished (pos 0) (Some (first_lack t)))
-    else verdict.Unfinished (pos 0) None
+    else none_known
+
+-- its plan file: the first plan's, or no byte where a shortfall passes its limit
+abbrev pub first_file : Tables → List ℕ
+first_file t = if has_first t then plan_text t (first_plan t) else []
 
 -- what the first records of contents give, one sum for each nutrient
 pub record AddsUp (t : Tables) (i : ℕ) (sums : List ℤ) : Type 0 where

@@ -1,6 +1,7 @@
 pub mod Verdicts
 pub mod OneBasket
 pub mod First
+pub mod Candidate
 pub mod PlanFile
 pub mod Counts
 pub mod Plan

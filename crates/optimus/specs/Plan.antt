@@ -1,11 +1,10 @@
 -- What `plan` answers with, by what the files of its folder hold.
-use Rattle.std.specs.Prelude.{◌≡◌, ◌≢◌, ℕ, ◌+◌, ◌<◌, ◌≤◌, List, [], ◌∷◌, ◌++◌, codes, Some, None, Result, Ok, Err, if◌then◌else◌, option_map}
+use Rattle.std.specs.Prelude.{◌≡◌, ◌≢◌, ℕ, ◌+◌, ◌<◌, ◌≤◌, List, [], ◌∷◌, ◌++◌, codes, Some, None, Result, Ok, Err, option_map}
 use Rattle.opt_base.specs.Answers.{◌>>=◌}
 use Rattle.opt_base.specs.Outside.{Files, written, appended}
 use Rattle.opt_base.specs.declared.refusal.Refusal.{Refusal}
 use Rattle.opt_model.specs.Tables.{Tables}
 use Rattle.opt_model.specs.Plans.{Plan}
-use Rattle.opt_model.specs.Limits.{within_limits}
 use Rattle.opt_model.specs.Verdicts.{IsTrueVerdict, node_limit}
 use Rattle.opt_model.specs.Texts.{plan_text, verdict_line, refusal_line}
 use Rattle.opt_model.specs.declared.verdict.Verdict.{Verdict}
@@ -14,11 +13,11 @@ use Rattle.opt_reply.specs.Answer.{Answer}
 use Rattle.opt_reply.specs.Delivery.{Standing, Faults, Delivers}
 use Rattle.opt_tables.specs.Files.{ModelFiles, files_in}
 use Rattle.opt_tables.specs.Model.{tables_of}
-use Rattle.optimus.specs.First.{first_plan, first_verdict, has_first}
+use Rattle.optimus.specs.Candidate.{limited, verdict_for, file_for}
 
 -- the model that the files stand for, or the first refusal, its counts last
 abbrev pub model_of : ModelFiles → Result Tables Refusal
-model_of files = tables_of files >>= within_limits
+model_of files = tables_of files >>= limited
 
 -- the model of a folder, by what the shelf holds
 abbrev pub model_in : Files → List ℕ → Result Tables Refusal
@@ -34,10 +33,6 @@ status_of (verdict.Plan objective bound) = 0
 status_of verdict.NoPlan = 1
 status_of (verdict.Unfinished bound best) = 2
 
--- the plan file: the first plan's, or no byte where no plan is known
-abbrev pub first_file : Tables → List ℕ
-first_file t = if has_first t then plan_text t (first_plan t) else []
-
 -- the answer of a verdict with one node and a plan file
 abbrev pub verdict_answer : List ℕ → Verdict → List ℕ → Answer
 verdict_answer folder v file = record { status = status_of v; puts = (plan_path folder, file) ∷ []; printed = verdict_line v 1; refused = [] }
@@ -46,10 +41,10 @@ verdict_answer folder v file = record { status = status_of v; puts = (plan_path 
 abbrev pub refused_answer : Refusal → Answer
 refused_answer refusal = record { status = 3; puts = []; printed = []; refused = refusal_line refusal }
 
--- what the first form answers with: the plan file and the verdict's line with one node, or the line of a refusal
+-- what is answered to a model: the plan file and the verdict's line with one node, or the line of a refusal
 abbrev pub answer_of : List ℕ → Result Tables Refusal → Answer
 answer_of folder (Err refusal) = refused_answer refusal
-answer_of folder (Ok t) = verdict_answer folder (first_verdict t) (first_file t)
+answer_of folder (Ok t) = verdict_answer folder (verdict_for t) (file_for t)
 
 -- some answer of status 0, 2 or 3 is given with this status: whole, or in part where the outside failed or memory ran out
 pub record DeliversSome (status : ℕ) (old new : Standing) (before now : Faults) : Type 0 where

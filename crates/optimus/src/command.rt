@@ -70,6 +70,7 @@ fn deliver_plan<S: Shelf, O: Sink, E: Sink>(
 }
 
 /// Reads the model of a folder, plans a basket of one month, puts `plan.csv` into the folder and prints the verdict's line.
+/// A model with groups, places, offers, arcs, persons or stock has no plan yet: it ends unfinished, and `plan.csv` holds no byte.
 ///
 /// The status is 0 where a plan was found, 2 where the search stopped without one that is good enough, 3 where the model is
 /// refused, 4 only where the outside failed, 5 where memory ran out.

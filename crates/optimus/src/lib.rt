@@ -1,6 +1,7 @@
 //! The commands of the program, from the bytes of a folder to the bytes that it writes.
 #![tactic(auto)]
 
+mod candidate;
 mod command;
 mod first;
 mod limits;

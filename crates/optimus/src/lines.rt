@@ -1,9 +1,9 @@
 ghost use Rattle.std.specs.Prelude.{◌≡◌, IfOk, string_bytes, map};
-ghost use Rattle.opt_model.specs.Texts.{verdict_line, best_text, file_name, column_names, column_name, kind_text, record_text, column_text, refusal_line};
+ghost use Rattle.opt_model.specs.Texts.{verdict_line, best_text, column_names, column_name, kind_text, record_text, column_text, refusal_line};
 ghost use Rattle.optimus.specs.Verdicts.{HasNumbers};
 
 use opt_base::{File, Kind, Refusal};
-use opt_model::Verdict;
+use opt_model::{Verdict, file_name};
 use std::alloc::{AllocError, Global};
 
 /// The line of a verdict, with the number of nodes.
@@ -31,31 +31,6 @@ fn text_of_best(alloc: Global, best: Option<i128>) -> Result<String, AllocError>
     match best {
         Some(best) => format!(in alloc; "{best}"),
         None => format!(in alloc; "none"),
-    }
-}
-
-/// The name of a file.
-fn name_of_file(file: File) -> &'static str
-    ensures { result.now ≡ file_name file }
-{
-    match file {
-        File::Settings => "settings.toml",
-        File::Commodities => "commodities.csv",
-        File::Groups => "groups.csv",
-        File::Nutrients => "nutrients.csv",
-        File::Contents => "contents.csv",
-        File::Places => "places.csv",
-        File::Offers => "offers.csv",
-        File::Arcs => "arcs.csv",
-        File::Persons => "persons.csv",
-        File::Stock => "stock.csv",
-        File::Baskets => "baskets.csv",
-        File::Needs => "needs.csv",
-        File::Model => "model",
-        File::Plan => "plan.csv",
-        File::Certificate => "certificate.txt",
-        File::Edits => "edits",
-        File::Executed => "executed.csv",
     }
 }
 
@@ -165,7 +140,7 @@ fn text_of_column(alloc: Global, file: File, column: u8) -> Result<String, Alloc
 pub fn line_of_refusal(alloc: Global, refusal: &Refusal) -> Result<String, AllocError>
     ensures { IfOk result (λ text. string_bytes text ≡ refusal_line refusal.now) }
 {
-    let file = name_of_file(refusal.file);
+    let file = file_name(refusal.file);
     let record = text_of_record(alloc, refusal.number)?;
     let column = text_of_column(alloc, refusal.file, refusal.column)?;
     let kind = text_of_kind(alloc, refusal.kind)?;

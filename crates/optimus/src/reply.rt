@@ -1,11 +1,12 @@
 //! What `plan` answers with, computed whole before anything is put.
-ghost use Rattle.std.specs.Prelude.{◌≡◌, IfOk, Ok, map, true, false};
-ghost use Rattle.opt_model.specs.Limits.{within_limits};
+ghost use Rattle.std.specs.Prelude.{◌≡◌, IfOk, Ok, [], map, true};
 ghost use Rattle.optimus.specs.OneBasket.{IsOneBasket};
-ghost use Rattle.optimus.specs.First.{first_verdict, has_first, least_short};
+ghost use Rattle.optimus.specs.First.{first_file, first_verdict, has_first, least_short, none_known};
+ghost use Rattle.optimus.specs.Candidate.{basket_part, limited};
 ghost use Rattle.optimus.specs.Verdicts.{HasNumbers};
 ghost use Rattle.optimus.specs.Plan.{answer_of, model_of, refused_answer, status_of, verdict_answer};
 
+use crate::candidate::is_basket;
 use crate::first::{lack_of_first, shorts_of_first};
 use crate::limits::refused_count;
 use crate::lines::{line_of_refusal, line_of_verdict};
@@ -87,16 +88,15 @@ fn reply_with_plan(
     requires model { IsOneBasket tables.now }
     requires first { has_first tables.now ≡ true }
     requires shorts { shorts.now ≡ map (least_short tables.now) tables.now.needs }
-    ensures { IfOk result (λ reply. reply ≡ answer_of folder.now (Ok tables.now)) }
+    ensures { IfOk result (λ reply. reply ≡ verdict_answer folder.now (first_verdict tables.now) (first_file tables.now)) }
 {
     let file = text_of_first_plan(alloc, tables, shorts)?;
     reply_of_verdict(alloc, folder, &verdict_of_first(tables, shorts), &file)
 }
 
 /// The answer where no plan is known.
-fn reply_without_plan(alloc: Global, folder: &str, tables: &Tables) -> Result<Reply, OutOfMemory>
-    requires { has_first tables.now ≡ false }
-    ensures { IfOk result (λ reply. reply ≡ answer_of folder.now (Ok tables.now)) }
+fn reply_without_plan(alloc: Global, folder: &str) -> Result<Reply, OutOfMemory>
+    ensures { IfOk result (λ reply. reply ≡ verdict_answer folder.now none_known []) }
 {
     let verdict = Verdict::Unfinished {
         bound: 0,
@@ -105,21 +105,34 @@ fn reply_without_plan(alloc: Global, folder: &str, tables: &Tables) -> Result<Re
     reply_of_verdict(alloc, folder, &verdict, &[])
 }
 
-/// The answer to a model that is within the limits.
-fn reply_to_model(alloc: Global, folder: &str, tables: &Tables) -> Result<Reply, OutOfMemory>
+/// The answer to a basket that is within the limits.
+fn reply_to_basket(alloc: Global, folder: &str, tables: &Tables) -> Result<Reply, OutOfMemory>
     requires { IsOneBasket tables.now }
-    ensures { IfOk result (λ reply. reply ≡ answer_of folder.now (Ok tables.now)) }
+    ensures { IfOk result (λ reply. reply ≡ verdict_answer folder.now (first_verdict tables.now) (first_file tables.now)) }
 {
     match shorts_of_first(alloc, tables)? {
         Some(shorts) => reply_with_plan(alloc, folder, tables, &shorts),
-        None => reply_without_plan(alloc, folder, tables),
+        None => reply_without_plan(alloc, folder),
     }
 }
 
-/// The answer to a model of the first form, which is refused where one of its counts is past its limit.
+/// The answer to a model that is within the limits.
+#[tactic(auto, using(crate::proofs::Candidates::basket_is_one))]
+fn reply_to_model(alloc: Global, folder: &str, tables: &Tables) -> Result<Reply, OutOfMemory>
+    requires { IsOneBasket (basket_part tables.now) }
+    ensures { IfOk result (λ reply. reply ≡ answer_of folder.now (Ok tables.now)) }
+{
+    if is_basket(tables) {
+        reply_to_basket(alloc, folder, tables)
+    } else {
+        reply_without_plan(alloc, folder)
+    }
+}
+
+/// The answer to a model that is read, which is refused where one of its counts is past its limit.
 fn reply_to_tables(alloc: Global, folder: &str, tables: &Tables) -> Result<Reply, OutOfMemory>
-    requires { IsOneBasket tables.now }
-    ensures { IfOk result (λ reply. reply ≡ answer_of folder.now (within_limits tables.now)) }
+    requires { IsOneBasket (basket_part tables.now) }
+    ensures { IfOk result (λ reply. reply ≡ answer_of folder.now (limited tables.now)) }
 {
     match refused_count(tables) {
         Some(refusal) => reply_to_refusal(alloc, &refusal),

@@ -1,3 +1,7 @@
+mod limits;
+mod network;
+mod refusals;
+
 use crate::optimus;
 use opt_base::{MemShelf, MemSink, OutOfMemory, Shelf, Sink, SureShelf, SureSink};
 use std::alloc::{AllocError, Global};
@@ -188,7 +192,7 @@ fn names_what_is_wrong_with_a_file(rt: HostRuntime) -> Result<(), Fail> {
     expect_refused(
         &rt,
         &planned(alloc, &[groups])?,
-        "refused groups.csv: FileTooBig\n",
+        "refused groups.csv column group: ColumnMissing\n",
     );
     let no_goal = Change {
         path: "d/settings.toml",

@@ -1,5 +1,5 @@
 use Rattle.std.proofs.Common.{◌≡◌, ◌++◌, drop}
-use Rattle.opt_tables.specs.Nutrients.{needs_from, needs_of}
+use Rattle.opt_tables.specs.Diet.{needs_from, needs_of}
 use Rattle.opt_tables.proofs.nutrients.needs.Given as goal
 
 -- the needs so far and those of the lines that are left are all

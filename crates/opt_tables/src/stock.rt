@@ -1,0 +1,57 @@
+use crate::key::Key;
+use crate::lines::Line;
+use crate::link::{Link, TableLines};
+use crate::row::Row;
+use opt_base::{ModelFault, Refusal};
+use opt_model::Stock;
+use std::alloc::Global;
+
+/// What a record of stock.csv says but for its names.
+#[derive(Clone, Copy, Debug, PartialEq, Eq)]
+pub struct StockLine {
+    /// The month, from 1.
+    pub month: u32,
+    /// 0 to 10^9 kilograms.
+    pub kg: u32,
+}
+
+impl Line for StockLine {
+    ghost use Rattle.opt_tables.specs.Network.{stock_line_of, stock_key};
+
+    ghost line_of = { stock_line_of };
+
+    ghost key_of = { stock_key };
+
+    fn read(row: &Row<'_>, months: u32) -> Result<StockLine, Refusal> {
+        row.name(1)?;
+        row.name(2)?;
+        Ok(StockLine {
+            month: row.number(3, 1, months)?,
+            kg: row.number(4, 0, 1_000_000_000)?,
+        })
+    }
+
+    fn key<'a>(&self, row: &Row<'a>) -> Key<'a> {
+        Key::NamesInMonth(row.text(1), row.text(2), self.month)
+    }
+}
+
+impl Link<Stock> for StockLine {
+    ghost use Rattle.opt_tables.specs.Network.{stock_of};
+
+    ghost record_of = { λ tables. stock_of tables.diet tables.network };
+
+    fn link(
+        &self,
+        _alloc: Global,
+        row: &Row<'_>,
+        tables: &TableLines<'_>,
+    ) -> Result<Stock, ModelFault> {
+        Ok(Stock {
+            place: row.reference(1, tables.network.places.keys())?,
+            commodity: row.reference(2, tables.diet.commodities.keys())?,
+            month: self.month,
+            kg: i64::from(self.kg),
+        })
+    }
+}
