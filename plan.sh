@@ -11,7 +11,8 @@ cd "$(dirname "$0")/crates/optimus_cli" || exit 125
 mkdir -p out
 # The build also runs the program, here without words, which it refuses.
 rt run >out/build.log 2>&1
-if ! grep -q '^logic=proved' out/build.log || [ ! -x out/optimus_cli ]; then
+proved='^logic=proved|nothing has changed since the last proved build'
+if ! grep -Eq "$proved" out/build.log || [ ! -x out/optimus_cli ]; then
     cat out/build.log >&2
     exit 125
 fi
