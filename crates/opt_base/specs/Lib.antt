@@ -1,3 +1,5 @@
 pub mod Answers
 pub mod Outside
 pub mod Calls
+pub mod Refusals
+pub mod Draws

@@ -80,6 +80,43 @@ pub struct Refusal {
     pub kind: Kind,
 }
 
+impl Refusal {
+    ghost use Rattle.opt_base.specs.Refusals.{refusal_of_file, refusal_of_record, refusal_at, too_many};
+
+    /// The refusal of a file as a whole.
+    pub fn of_file(file: File, kind: Kind) -> Refusal
+        ensures { result ≡ refusal_of_file file kind }
+    {
+        Refusal::at(file, 0, 0, kind)
+    }
+
+    /// The refusal of a record as a whole, numbered from 1.
+    pub fn of_record(file: File, number: u32, kind: Kind) -> Refusal
+        ensures { result ≡ refusal_of_record file number kind }
+    {
+        Refusal::at(file, number, 0, kind)
+    }
+
+    /// The refusal of a record's column, both numbered from 1.
+    pub fn at(file: File, number: u32, column: u8, kind: Kind) -> Refusal
+        ensures { result ≡ refusal_at file number column kind }
+    {
+        Refusal {
+            file,
+            number,
+            column,
+            kind,
+        }
+    }
+
+    /// The model has this many of what the column names: quantities, rows or terms.
+    pub fn too_many(column: u8, count: u64) -> Refusal
+        ensures { result ≡ too_many column count }
+    {
+        Refusal::at(File::Model, 0, column, Kind::TooMany(count))
+    }
+}
+
 /// Why there is no model: a refusal, or want of memory.
 #[derive(Clone, Copy, Debug, PartialEq, Eq)]
 pub enum ModelFault {

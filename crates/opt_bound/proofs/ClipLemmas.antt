@@ -124,7 +124,7 @@ IsRising-filter p [] rising = IsRising-nil
 IsRising-filter p (e ∷ es) rising =
     rising_by (p e) e (filter p es) (All-filter p (λ d. e.0 < d.0) es (IsRising-head e es rising)) (IsRising-filter p es (IsRising-tail e es rising))
 
-no_zero_of : (e : ℕ × ℤ) → is_left e ≡ true → e.1 ≢ pos 0
+pub no_zero_of : (e : ℕ × ℤ) → is_left e ≡ true → e.1 ≢ pos 0
 no_zero_of e h q = let clash : true ≡ false = sym h ∙ gone_of e q in cc
 
 pub IsProper-cut : (q : ℤ) (es : List (ℕ × ℤ)) (s : ℕ) → pos 0 ≤ℤ q → IsRising es → FitsBy q es s → IsProper (record { q = cut q s; entries = cut_entries s es })

@@ -1,17 +1,15 @@
 -- The first value that reaches a bound, and what it says of a box.
-use Rattle.std.proofs.Common.{◌≡◌, ◌⊎◌, inl, inr, ℕ, ◌+◌, ◌*◌, ◌≤◌, ◌<◌, List, length, ℤ, pos, negsuc, ◌*ℤ◌, ◌≤ℤ◌, ◌<ℤ◌, unsigned_abs, arith}
+use Rattle.std.proofs.Common.{◌≡◌, ◌⊎◌, inl, inr, ℕ, zero, suc, ◌+◌, ◌*◌, ◌^◌, ◌≤◌, ◌<◌, List, ℤ, pos, negsuc, ◌*ℤ◌, ◌≤ℤ◌, ◌<ℤ◌, unsigned_abs, arith}
 use Rattle.std.specs.Int.{div_ceil}
 use Rattle.std.proofs.lemmas.Int.{ints}
 use Rattle.std.proofs.lemmas.Grind.{div_ceil_times}
 use Rattle.std.proofs.Math.Nat.{mul-le-mul_left, mul-le-mul_right}
-use Rattle.opt_sums.specs.Sums.{at}
-use Rattle.opt_sums.proofs.Ring.{mul_le}
-use Rattle.opt_sums.proofs.SumLemmas.{sum_to-not_negative}
-use Rattle.opt_system.specs.Bounds.{Bounds, IsWithin}
-use Rattle.opt_system.specs.Problem.{Problem, IsLimited, Meets, value}
+use Rattle.opt_system.specs.Ranges.{Range, IsWithin}
+use Rattle.opt_system.specs.Systems.{System, IsLimited, Meets, value}
+use Rattle.opt_system.proofs.LimitLemmas.{value_from_zero}
 use Rattle.opt_bound.specs.declared.leaf.Leaf.{Leaf}
 use Rattle.opt_bound.specs.declared.leaf.Leaf.TheVariants.{Empty, AtLeast}
-use Rattle.opt_bound.specs.Verdict.{Reaches, IsLeastReached, IsTrueOf}
+use Rattle.opt_bound.specs.Verdict.{leaf_of, Reaches, IsLeastReached, IsLeafInRange, IsTrueOf}
 
 at_most_or_more : (n a : ℕ) → (n ≤ a) ⊎ (a < n)
 at_most_or_more n a = grind arith
@@ -56,20 +54,18 @@ least_reached (pos a) (pos d) r h k e =
 least_reached (pos a) (negsuc d) r h k e = absurd (omega (arith, ints))
 least_reached (negsuc a) q r h k e = absurd (omega (arith, ints))
 
--- costs and quantities are from 0 on, so values are
-pub value_from_zero : (p : Problem) (x : List ℤ) → IsLimited p → IsWithin p.root x → pos 0 ≤ℤ value p x
-value_from_zero p x limited inside =
-    sum_to-not_negative (length p.cost) (λ j. at p.cost j *ℤ at x j)
-    (λ j h.
-    let named : j < length p.root.low = omega (arith, limited.small.cost_each) in
-    let from : pos 0 ≤ℤ at p.root.low j = limited.ordered.from_zero j named in
-    let above : at p.root.low j ≤ℤ at x j = inside.above j (omega (arith, inside.same_length)) in
-    let grows : (at p.cost j *ℤ pos 0) ≤ℤ (at p.cost j *ℤ at x j) = mul_le (at p.cost j) (pos 0) (at x j) (limited.small.costs.from_zero j h) (omega (arith, ints)) in
-    omega (arith, ints))
-
 -- a leaf that the bound reaches is true of the box
-pub leaf_true : (p : Problem) (box : Bounds) (b q : ℤ) (leaf : Leaf) → IsLimited p → IsLeastReached b q leaf → ((x : List ℤ) → Meets p x → IsWithin box x → b ≤ℤ (q *ℤ value p x)) → IsTrueOf p box leaf
+pub leaf_true : (p : System) (box : Range) (b q : ℤ) (leaf : Leaf) → IsLimited p → IsLeastReached b q leaf → ((x : List ℤ) → Meets p x → IsWithin box x → b ≤ℤ (q *ℤ value p x)) → IsTrueOf p box leaf
 leaf_true p box b q Empty limited least law = λ x meets inside.
     least (value p x) (record { from_zero = value_from_zero p x limited meets.in_range; reached = law x meets inside })
 leaf_true p box b q (AtLeast v) limited least law = λ x meets inside.
     least.1 (value p x) (record { from_zero = value_from_zero p x limited meets.in_range; reached = law x meets inside })
+
+-- the leaf of a bound below 2^126 has a value from 0 to 2^126
+pub leaf_in_range : (b q : ℤ) → unsigned_abs b < 2 ^ 126 → IsLeafInRange (leaf_of b q)
+leaf_in_range (pos zero) q h = (omega (arith, ints), omega (arith, ints))
+leaf_in_range (pos (suc b)) (pos zero) h = tt
+leaf_in_range (pos (suc b)) (pos (suc q)) h =
+    (omega (arith, ints), omega (arith, ints, div_ceil_le (suc b) (suc q) (omega arith)))
+leaf_in_range (pos (suc b)) (negsuc q) h = (omega (arith, ints), omega (arith, ints))
+leaf_in_range (negsuc b) q h = (omega (arith, ints), omega (arith, ints))

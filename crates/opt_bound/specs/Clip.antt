@@ -1,15 +1,17 @@
 -- Numbers of 128 bits cut to multipliers: all divided by one power of 2, as small as will do.
 use Rattle.std.specs.Prelude.{◌≡◌, ℕ, ◌/◌, ◌^◌, ◌≤◌, ◌==◌, List, [], All, map, filter, ℤ, pos, ◌<ℤ◌, unsigned_abs, int_div, not}
-use Rattle.opt_bound.specs.Multipliers.{Multipliers}
+use Rattle.opt_system.specs.Systems.{System}
+use Rattle.opt_bound.specs.declared.limits.TheConstants.{MULTIPLIER_LIMIT}
+use Rattle.opt_bound.specs.Multipliers.{Multipliers, IsFitting, IsAdmissible}
 
 -- the number divided by 2^s, toward zero
 abbrev pub cut : ℤ → ℕ → ℤ
 cut z s = int_div z (pos (2 ^ s))
 
--- each size divided by 2^s and cut toward zero is at most 2^56
+-- each size divided by 2^s and cut toward zero is at most the limit
 pub record FitsBy (q : ℤ) (entries : List (ℕ × ℤ)) (s : ℕ) : Type 0 where
-  pub objective : unsigned_abs q / 2 ^ s ≤ 2 ^ 56
-  pub each : All (λ e. unsigned_abs e.1 / 2 ^ s ≤ 2 ^ 56) entries
+  pub objective : unsigned_abs q / 2 ^ s ≤ MULTIPLIER_LIMIT
+  pub each : All (λ e. unsigned_abs e.1 / 2 ^ s ≤ MULTIPLIER_LIMIT) entries
 
 -- s is the least with which each size fits
 pub record IsShift (q : ℤ) (entries : List (ℕ × ℤ)) (s : ℕ) : Type 0 where
@@ -34,3 +36,7 @@ pub record IsLargest (q : ℤ) (entries : List (ℕ × ℤ)) (size : ℕ) : Type
   pub objective : unsigned_abs q ≤ size
   pub each : All (λ e. unsigned_abs e.1 ≤ size) entries
   pub reached : (most : ℕ) → unsigned_abs q ≤ most → All (λ e. unsigned_abs e.1 ≤ most) entries → size ≤ most
+
+-- for each system for which these numbers are admissible, the multipliers are
+abbrev pub KeepsAdmissible : List (ℕ × ℤ) → Multipliers → Type 0
+KeepsAdmissible entries m = (p : System) → All (IsFitting p) entries → IsAdmissible p m

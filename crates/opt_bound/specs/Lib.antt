@@ -1,4 +1,5 @@
 pub mod Multipliers
+pub mod Faults
 pub mod Bound
 pub mod Verdict
 pub mod Kept

@@ -1,8 +1,8 @@
 -- What a bound says of a box: that no point of it meets the rows, or the least value that such a point can have.
-use Rattle.std.specs.Prelude.{zero, suc, ℤ, pos, ◌*ℤ◌, ◌≤ℤ◌, List}
+use Rattle.std.specs.Prelude.{zero, suc, ◌^◌, ℤ, pos, ◌*ℤ◌, ◌≤ℤ◌, List}
 use Rattle.std.specs.Int.{div_ceil}
-use Rattle.opt_system.specs.Bounds.{Bounds, IsWithin}
-use Rattle.opt_system.specs.Problem.{Problem, Meets, value}
+use Rattle.opt_system.specs.Ranges.{Range, IsWithin}
+use Rattle.opt_system.specs.Systems.{System, Meets, value}
 use Rattle.opt_bound.specs.declared.leaf.Leaf.{Leaf}
 use Rattle.opt_bound.specs.declared.leaf.Leaf.TheVariants.{Empty, AtLeast}
 
@@ -23,7 +23,16 @@ abbrev pub IsLeastReached : ℤ → ℤ → Leaf → Type 0
 IsLeastReached b q Empty = (w : ℤ) → ¬ Reaches b q w
 IsLeastReached b q (AtLeast v) = Reaches b q v × ((w : ℤ) → Reaches b q w → v ≤ℤ w)
 
+-- q times the value of each point of the box that meets the rows is at least b
+abbrev pub IsLowerBound : System → Range → ℤ → ℤ → Type 0
+IsLowerBound p box q b = (x : List ℤ) → Meets p x → IsWithin box x → b ≤ℤ (q *ℤ value p x)
+
+-- the leaf's value, where it has one, is from 0 to 2^126
+abbrev pub IsLeafInRange : Leaf → Type 0
+IsLeafInRange Empty = Unit {0}
+IsLeafInRange (AtLeast v) = (pos 0 ≤ℤ v) × (v ≤ℤ pos (2 ^ 126))
+
 -- the leaf is true of the box: Empty where no point of it meets the rows, else below the value of each that does
-abbrev pub IsTrueOf : Problem → Bounds → Leaf → Type 0
+abbrev pub IsTrueOf : System → Range → Leaf → Type 0
 IsTrueOf p box Empty = (x : List ℤ) → Meets p x → IsWithin box x → ⊥
 IsTrueOf p box (AtLeast v) = (x : List ℤ) → Meets p x → IsWithin box x → v ≤ℤ value p x

@@ -1,13 +1,11 @@
 ghost use Rattle.std.specs.Prelude.{◌≡◌, ℕ, ◌/◌, ◌^◌, ◌<◌, ◌≤◌, ◌≤ℤ◌, pos, unsigned_abs, All, IfOk};
 ghost use Rattle.opt_sums.specs.Entries.{IsRising};
-ghost use Rattle.opt_bound.specs.Clip.{IsClip, IsLargest, cut as cut_of, cut_entries as cut_entries_of};
+ghost use Rattle.opt_bound.specs.Clip.{IsClip, IsLargest, KeepsAdmissible, cut as cut_of, cut_entries as cut_entries_of};
 
+use crate::limits::MULTIPLIER_LIMIT;
 use crate::mult::Mult;
 use opt_base::OutOfMemory;
 use std::alloc::{AllocError, Global};
-
-/// The greatest size of a multiplier.
-const LIMIT: u128 = 72_057_594_037_927_936;
 
 /// The greatest shift that a size of 128 bits needs.
 const MOST_SHIFT: u32 = 71;
@@ -19,7 +17,8 @@ const MOST_SHIFT: u32 = 71;
 pub fn clip(alloc: Global, q: i128, entries: &[(u32, i128)]) -> Result<Mult, OutOfMemory>
     requires q_from_zero { pos 0 ≤ℤ q }
     requires rising { IsRising entries.now }
-    ensures { IfOk result (IsClip q entries.now) }
+    ensures clip { IfOk result (IsClip q entries.now) }
+    ensures admissible { IfOk result (KeepsAdmissible entries.now) }
 {
     let shift = shift_of(largest(q, entries));
     let objective = cut(q, shift);
@@ -46,11 +45,11 @@ fn largest(q: i128, entries: &[(u32, i128)]) -> u128
 fn shift_of(size: u128) -> u32
     requires { size ≤ 2 ^ 127 }
     ensures few { result ≤ 71 }
-    ensures fits { size / 2 ^ result ≤ 2 ^ 56 }
-    ensures least { (t : ℕ) → size / 2 ^ t ≤ 2 ^ 56 → result ≤ t }
+    ensures fits { size / 2 ^ result ≤ MULTIPLIER_LIMIT }
+    ensures least { (t : ℕ) → size / 2 ^ t ≤ MULTIPLIER_LIMIT → result ≤ t }
 {
     for shift in 0..MOST_SHIFT {
-        if size >> shift <= LIMIT {
+        if size >> shift <= u128::from(MULTIPLIER_LIMIT) {
             return shift;
         }
     }
@@ -60,7 +59,7 @@ fn shift_of(size: u128) -> u32
 /// The number divided by 2^`shift`, toward zero.
 fn cut(number: i128, shift: u32) -> i64
     requires few { shift ≤ 71 }
-    requires fits { unsigned_abs number / 2 ^ shift ≤ 2 ^ 56 }
+    requires fits { unsigned_abs number / 2 ^ shift ≤ MULTIPLIER_LIMIT }
     ensures { result ≡ cut_of number shift }
 {
     let size = (number.unsigned_abs() >> shift) as i64;
@@ -74,7 +73,7 @@ fn cut_entries(
     shift: u32,
 ) -> Result<Vec<(u32, i64)>, AllocError>
     requires few { shift ≤ 71 }
-    requires fits { All (λ e. unsigned_abs e.1 / 2 ^ shift ≤ 2 ^ 56) entries.now }
+    requires fits { All (λ e. unsigned_abs e.1 / 2 ^ shift ≤ MULTIPLIER_LIMIT) entries.now }
     ensures { IfOk result (λ kept. kept.items ≡ cut_entries_of shift entries.now) }
 {
     let mut kept = Vec::new(alloc);

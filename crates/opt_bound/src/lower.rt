@@ -1,11 +1,11 @@
-ghost use Rattle.std.specs.Prelude.{◌≡◌, List, ℤ, ◌^◌, ◌<◌, ◌≤◌, ◌*ℤ◌, ◌≤ℤ◌, length, unsigned_abs};
+ghost use Rattle.std.specs.Prelude.{◌≡◌, ◌^◌, ◌<◌, ◌≤◌, ◌*ℤ◌, length, unsigned_abs};
 ghost use Rattle.opt_sums.specs.Sums.{at};
 ghost use Rattle.opt_sums.specs.Entries.{AllBelow, coef};
-ghost use Rattle.opt_system.specs.Bounds.{IsOrdered, LiesIn, IsWithin};
-ghost use Rattle.opt_system.specs.Problem.{IsLimited, row_at, Meets, value};
+ghost use Rattle.opt_system.specs.Ranges.{IsOrdered, LiesIn};
+ghost use Rattle.opt_system.specs.Systems.{IsLimited, row_at};
 ghost use Rattle.opt_bound.specs.Multipliers.{IsAdmissible, IsProper};
-ghost use Rattle.opt_bound.specs.Bound.{bound_of, least_of, right_of, slope_of};
-ghost use Rattle.opt_bound.specs.Verdict.{leaf_of, IsTrueOf};
+ghost use Rattle.opt_bound.specs.Bound.{bound_of, point_bound_of, least_of, right_hand_side_of, reduced_cost_of};
+ghost use Rattle.opt_bound.specs.Verdict.{leaf_of, IsLeafInRange, IsLowerBound, IsTrueOf};
 
 use crate::leaf::{Leaf, verdict_of};
 use crate::mult::Mult;
@@ -14,7 +14,7 @@ use opt_system::{Range, System};
 
 /// The lower bound on q times the value of each point of the range that meets the rows.
 ///
-/// It is the weighted sum of the right sides and, for each quantity, the least that it can give in the range of what is
+/// It is the weighted sum of the right-hand sides and, for each quantity, the least that it can give in the range of what is
 /// left of its cost. Where the multipliers are admissible, it is a bound by weak duality of linear programming. It goes
 /// once over the terms and the quantities, takes no memory and cannot overflow.
 pub fn bound(system: &System, range: &Range, mult: &Mult) -> i128
@@ -23,11 +23,14 @@ pub fn bound(system: &System, range: &Range, mult: &Mult) -> i128
     ensures value { result ≡ bound_of system.now range.now mult.now }
     ensures small { unsigned_abs result < 2 ^ 126 }
     ensures limited { IsLimited system.now }
+    ensures point { range.now.low ≡ range.now.high
+        → result ≡ point_bound_of system.now mult.now range.now.low }
     // Weak duality.
-    ensures law { IsAdmissible system.now mult.now → (x : List ℤ) → Meets system.now x → IsWithin range.now x → result ≤ℤ (mult.now.q *ℤ value system.now x) }
+    ensures law { IsAdmissible system.now mult.now
+        → IsLowerBound system.now range.now mult.now.q result }
 {
     let quantities = system.quantities();
-    let mut sum = weighted_right(system, mult);
+    let mut sum = weighted_right_hand_side(system, mult);
     for j in 0..quantities {
         sum += least_part(system, range, mult, j);
     }
@@ -40,32 +43,33 @@ pub fn leaf_at(system: &System, range: &Range, mult: &Mult) -> Leaf
     requires admissible { IsAdmissible system.now mult.now }
     requires within { LiesIn system.now.root range.now }
     ensures value { result ≡ leaf_of (bound_of system.now range.now mult.now) mult.now.q }
+    ensures in_range { IsLeafInRange result }
     ensures law { IsTrueOf system.now range.now result }
 {
     verdict_of(bound(system, range, mult), mult.q())
 }
 
-/// The weighted sum of the right sides.
-fn weighted_right(system: &System, mult: &Mult) -> i128
+/// The weighted sum of the right-hand sides.
+fn weighted_right_hand_side(system: &System, mult: &Mult) -> i128
     requires limited { IsLimited system.now }
     requires named { AllBelow (length system.now.rows) mult.now.entries }
-    ensures value { result ≡ right_of system.now mult.now }
+    ensures value { result ≡ right_hand_side_of system.now mult.now }
     ensures small { unsigned_abs result ≤ 2 ^ 120 }
     ensures proper { IsProper mult.now }
 {
     let mut sum = 0i128;
     for entry in mult.entries() {
-        sum += right_part(system, entry);
+        sum += right_hand_part(system, entry);
     }
     sum
 }
 
-/// The right side of the entry's row as often as the entry takes it.
-fn right_part(system: &System, entry: &(u32, i64)) -> i128
+/// The right-hand side of the entry's row as often as the entry takes it.
+fn right_hand_part(system: &System, entry: &(u32, i64)) -> i128
     requires { entry.now.0 < length system.now.rows }
-    ensures { result ≡ entry.now.1 *ℤ (row_at system.now.rows entry.now.0).right }
+    ensures { result ≡ entry.now.1 *ℤ (row_at system.now.rows entry.now.0).right_hand_side }
 {
-    product(entry.1, system.right(entry.0))
+    product(entry.1, system.right_hand_side(entry.0))
 }
 
 /// The least that quantity `j` can give in the range.
@@ -77,27 +81,27 @@ fn least_part(system: &System, range: &Range, mult: &Mult, j: u32) -> i128
     ensures value { result ≡ least_of system.now range.now mult.now j }
     ensures ordered { IsOrdered range.now }
 {
-    let slope = slope(system, mult, j);
-    let end = if slope >= 0 {
+    let reduced_cost = reduced_cost(system, mult, j);
+    let end = if reduced_cost >= 0 {
         range.low()[j as usize]
     } else {
         range.high()[j as usize]
     };
-    slope * i128::from(end)
+    reduced_cost * i128::from(end)
 }
 
 /// What is left of the cost of a unit of quantity `j` when the weighted rows are taken off.
-fn slope(system: &System, mult: &Mult, j: u32) -> i128
+fn reduced_cost(system: &System, mult: &Mult, j: u32) -> i128
     requires limited { IsLimited system.now }
     requires proper { IsProper mult.now }
     requires quantity { j < length system.now.cost }
-    ensures { result ≡ slope_of system.now mult.now j }
+    ensures { result ≡ reduced_cost_of system.now mult.now j }
 {
-    let mut slope = scaled_cost(system, mult, j);
+    let mut reduced_cost = scaled_cost(system, mult, j);
     for term in system.column(j) {
-        slope -= weighted(mult, term);
+        reduced_cost -= part_of(mult, term);
     }
-    slope
+    reduced_cost
 }
 
 /// What a unit of quantity `j` costs, as often as the objective is taken.
@@ -109,8 +113,7 @@ fn scaled_cost(system: &System, mult: &Mult, j: u32) -> i128
 }
 
 /// The coefficient of the term as often as its row is taken.
-fn weighted(mult: &Mult, term: &(u32, i64)) -> i128
-    requires { term.now.0 < 20000 }
+fn part_of(mult: &Mult, term: &(u32, i64)) -> i128
     ensures { result ≡ term.now.1 *ℤ coef mult.now.entries term.now.0 }
 {
     product(term.1, mult.weight(term.0))

@@ -1,28 +1,28 @@
-ghost use Rattle.std.specs.Prelude.{◌≡◌, ℕ, [], ◌*◌, ◌^◌, ◌<◌, ◌≤◌, ◌↔◌, length, pos, IfOk, IsTrue, All, unsigned_abs};
+ghost use Rattle.std.specs.Prelude.{◌≡◌, [], ◌<◌, ◌≤◌, ◌↔◌, pos, IfOk, IfSome, IsTrue, All, unsigned_abs};
+ghost use Rattle.opt_sums.specs.Sums.{at};
 ghost use Rattle.opt_sums.specs.Entries.{IsRising, coef};
-ghost use Rattle.opt_bound.specs.Kept.{IsLaidOut};
-ghost use Rattle.opt_bound.specs.Multipliers.{IsFitting};
+ghost use Rattle.opt_bound.specs.Kept.{IsByRow};
+ghost use Rattle.opt_bound.specs.Faults.{entry_fault_of, first_fault_of};
 
+use crate::fault::EntryFault;
+use crate::limits::MULTIPLIER_LIMIT;
 use opt_base::OutOfMemory;
 use opt_sums::{has_no_zero, is_rising};
 use opt_system::{RowKind, System};
 use std::alloc::{AllocError, Global};
 use std::marker::Model;
 
-/// The most rows that a system may have.
-const MOST_ROWS: usize = 20_000;
-
-/// The greatest size of a multiplier.
-const LIMIT: u64 = 72_057_594_037_927_936;
+/// The multipliers are kept by row as well where that takes at most this many places for each entry.
+const PLACES_EACH: usize = 4;
 
 /// Multipliers: how often the objective is taken, and how often rows are, by the row's number.
 ///
-/// They are kept by row as well, so that a row's multiplier is found without a search.
+/// Where that takes not much more memory they are kept by row as well, so that a row's multiplier is found without a search.
 #[derive(Debug, Drop)]
 pub struct Mult {
     q: i64,
     entries: Vec<(u32, i64)>,
-    by_row: Vec<i64>,
+    by_row: Option<Vec<i64>>,
 }
 
 impl Model for Mult {
@@ -33,7 +33,7 @@ impl Model for Mult {
 
     ghost view = { λ m. record { q = m.q; entries = m.entries.items } };
 
-    ghost invariant = { λ m. IsKept (record { q = m.q; entries = m.entries.items }) m.by_row.items };
+    ghost invariant = { λ m. IsKept (record { q = m.q; entries = m.entries.items }) m.by_row };
 }
 
 impl Mult {
@@ -43,7 +43,7 @@ impl Mult {
     pub fn are_proper(q: i64, entries: &[(u32, i64)]) -> bool
         ensures { IsTrue result ↔ IsProper (record { q = q; entries = entries.now }) }
     {
-        if q < 0 || q as u64 > LIMIT {
+        if q < 0 || q as u64 > MULTIPLIER_LIMIT {
             return false;
         }
         if !is_rising(entries) {
@@ -60,7 +60,7 @@ impl Mult {
         requires { IsProper (record { q = q; entries = entries.now }) }
         ensures { IfOk result (λ mult. mult ≡ record { q = q; entries = entries.now }) }
     {
-        let by_row = laid_out(alloc, entries)?;
+        let by_row = multipliers_by_row(alloc, entries)?;
         let entries = Vec::from_slice(alloc, entries)?;
         Ok(Mult { q, entries, by_row })
     }
@@ -72,7 +72,7 @@ impl Mult {
         Mult {
             q: 1,
             entries: Vec::new(alloc),
-            by_row: Vec::new(alloc),
+            by_row: None,
         }
     }
 
@@ -92,75 +92,119 @@ impl Mult {
         &self.entries
     }
 
+    /// A copy of the multipliers.
+    pub fn copy(&self, alloc: Global) -> Result<Mult, OutOfMemory>
+        ensures { IfOk result (λ mult. mult ≡ self.now) }
+    {
+        Mult::new(alloc, self.q, &self.entries)
+    }
+
+    /// The first entry that is wrong for the system, by why it is: it names no row, or is below 0 on a Ge row.
+    pub fn first_fault(&self, system: &System) -> Option<EntryFault>
+        ensures { result ≡ first_fault_of system.now self.now.entries }
+    {
+        for entry in self.entries.as_slice() {
+            let fault = entry_fault(system, entry);
+            if fault.is_some() {
+                return fault;
+            }
+        }
+        None
+    }
+
     /// Whether each entry names a row of the system and is above 0 on a Ge row.
     pub fn admissible(&self, system: &System) -> bool
         ensures { IsTrue result ↔ IsAdmissible system.now self.now }
     {
-        for entry in self.entries.as_slice() {
-            if !may_weigh(system, entry) {
-                return false;
-            }
-        }
-        true
+        self.first_fault(system).is_none()
     }
 
     /// How often the row is taken.
     pub(crate) fn weight(&self, row: u32) -> i64
-        requires { row < 20000 }
         ensures { result ≡ coef self.now.entries row }
     {
-        self.by_row.get(row as usize).copied().unwrap_or(0)
+        match &self.by_row {
+            Some(by_row) => at_row(by_row, row),
+            None => multiplier_of(&self.entries, row),
+        }
     }
 }
 
 /// Whether each multiplier is at most 2^56 in size.
 fn are_small(entries: &[(u32, i64)]) -> bool
-    ensures { IsTrue result ↔ All (λ e. unsigned_abs e.1 ≤ 2 ^ 56) entries.now }
+    ensures { IsTrue result ↔ All (λ e. unsigned_abs e.1 ≤ MULTIPLIER_LIMIT) entries.now }
 {
     for entry in entries {
-        if entry.1.unsigned_abs() > LIMIT {
+        if entry.1.unsigned_abs() > MULTIPLIER_LIMIT {
             return false;
         }
     }
     true
 }
 
-/// Whether the entry names a row of the system and is above 0 where that is a Ge row.
-fn may_weigh(system: &System, entry: &(u32, i64)) -> bool
-    ensures { IsTrue result ↔ IsFitting system.now entry.now }
+/// Why the entry is wrong for the system, if it is.
+fn entry_fault(system: &System, entry: &(u32, i64)) -> Option<EntryFault>
+    ensures { result ≡ entry_fault_of system.now entry.now }
 {
     if entry.0 >= system.rows() {
-        return false;
+        return Some(EntryFault::RowNumber(entry.0));
     }
     match system.kind(entry.0) {
-        RowKind::Ge => entry.1 > 0,
-        RowKind::Eq => true,
+        RowKind::Ge if entry.1 <= 0 => Some(EntryFault::Sign(entry.0)),
+        RowKind::Ge | RowKind::Eq => None,
     }
 }
 
-/// How many places the entries need that are numbered below `MOST_ROWS`.
+/// The multiplier of the row in a list by row, or 0 past its end.
+fn at_row(by_row: &[i64], row: u32) -> i64
+    ensures { result ≡ at by_row.now row }
+{
+    by_row.get(row as usize).copied().unwrap_or(0)
+}
+
+/// The multiplier of the row among entries by rising row, or 0 where it has none.
+fn multiplier_of(entries: &[(u32, i64)], row: u32) -> i64
+    requires { IsRising entries.now }
+    ensures { result ≡ coef entries.now row }
+{
+    match entries.binary_search_by_key(&row, |entry| entry.0) {
+        Ok(k) => entries[k].1,
+        Err(_) => 0,
+    }
+}
+
+/// How many places a list by row needs for the entries.
 fn places(entries: &[(u32, i64)]) -> usize
     requires { IsRising entries.now }
-    ensures few { result ≤ 20000 }
-    ensures covers { All (λ e. e.0 < 20000 → e.0 < result) entries.now }
+    ensures { All (λ e. e.0 < result) entries.now }
 {
     match entries.last() {
-        Some(last) => MOST_ROWS.min(last.0 as usize + 1),
+        Some(last) => last.0 as usize + 1,
         None => 0,
     }
 }
 
-/// How often each row is taken, by the row's number, as far as a system can have rows.
-fn laid_out(alloc: Global, entries: &[(u32, i64)]) -> Result<Vec<i64>, AllocError>
+/// The multipliers by row, unless that takes many places for each entry.
+fn multipliers_by_row(alloc: Global, entries: &[(u32, i64)]) -> Result<Option<Vec<i64>>, AllocError>
     requires { IsRising entries.now }
-    ensures { IfOk result (λ by_row. IsLaidOut entries.now by_row.items) }
+    ensures { IfOk result (λ by_row. IfSome by_row (λ list. IsByRow entries.now list.items)) }
 {
-    let mut by_row = vec![in alloc; 0i64; places(entries)]?;
+    let places = places(entries);
+    if places / PLACES_EACH > entries.len() {
+        return Ok(None);
+    }
+    Ok(Some(list_by_row(alloc, entries, places)?))
+}
+
+/// The multiplier of each row, 0 where it has none, in a list of this length.
+fn list_by_row(alloc: Global, entries: &[(u32, i64)], places: usize) -> Result<Vec<i64>, AllocError>
+    requires rising { IsRising entries.now }
+    requires covers { All (λ e. e.0 < places) entries.now }
+    ensures { IfOk result (λ list. IsByRow entries.now list.items) }
+{
+    let mut by_row = vec![in alloc; 0i64; places]?;
     for entry in entries {
-        let row = entry.0 as usize;
-        if row < by_row.len() {
-            by_row[row] = entry.1;
-        }
+        by_row[entry.0 as usize] = entry.1;
     }
     Ok(by_row)
 }

@@ -1,6 +1,6 @@
 ghost use Rattle.std.specs.Prelude.{◌≤ℤ◌, pos};
 
-use crate::{Leaf, Mult, bound, clip, leaf_at, verdict_of};
+use crate::{EntryFault, Leaf, Mult, bound, clip, leaf_at, verdict_of};
 use opt_base::{ModelFault, OutOfMemory};
 use opt_sums::{has_no_zero, is_rising};
 use opt_system::{Range, RowKind, RowList, System};
@@ -56,7 +56,7 @@ fn mult(
 }
 
 /// The bound of admissible multipliers on a range within the root, with the leaf that it stands for.
-fn judged(rt: &impl Abort, system: &System, range: &Range, mult: &Mult) -> (i128, Leaf) {
+fn judge(rt: &impl Abort, system: &System, range: &Range, mult: &Mult) -> (i128, Leaf) {
     let admissible = mult.admissible(system);
     assert!(rt; admissible);
     let within = range.lies_in(system.root());
@@ -90,14 +90,21 @@ fn rice(rt: &impl Abort, alloc: Global) -> Result<System, ModelFault> {
 }
 
 #[test]
-fn three_bounds_of_a_month_of_rice(rt: HostRuntime) -> Result<(), Fail> {
+fn a_bound_of_a_month_of_rice(rt: HostRuntime) -> Result<(), Fail> {
     let alloc = rt.alloc();
     let rice = rice(&rt, alloc)?;
     let whole = mult(&rt, alloc, 6, &[(0, 250), (1, 3), (3, 2700), (4, 3000)])?;
     assert_eq!(rt;
-        judged(&rt, &rice, rice.root(), &whole),
+        judge(&rt, &rice, rice.root(), &whole),
         (52_500_000, Leaf::AtLeast(8_750_000))
     );
+    Ok(())
+}
+
+#[test]
+fn less_than_the_rations_is_empty(rt: HostRuntime) -> Result<(), Fail> {
+    let alloc = rt.alloc();
+    let rice = rice(&rt, alloc)?;
     let left = range(
         &rt,
         alloc,
@@ -105,7 +112,14 @@ fn three_bounds_of_a_month_of_rice(rt: HostRuntime) -> Result<(), Fail> {
         &[58, 0, 20_000, 20_000, 18_000],
     )?;
     let hungry = mult(&rt, alloc, 0, &[(0, 1)])?;
-    assert_eq!(rt; judged(&rt, &rice, &left, &hungry), (1200, Leaf::Empty));
+    assert_eq!(rt; judge(&rt, &rice, &left, &hungry), (1200, Leaf::Empty));
+    Ok(())
+}
+
+#[test]
+fn the_rations_have_a_greater_bound(rt: HostRuntime) -> Result<(), Fail> {
+    let alloc = rt.alloc();
+    let rice = rice(&rt, alloc)?;
     let right = range(
         &rt,
         alloc,
@@ -114,11 +128,11 @@ fn three_bounds_of_a_month_of_rice(rt: HostRuntime) -> Result<(), Fail> {
     )?;
     let fed = mult(&rt, alloc, 2, &[(1, 1), (3, 900), (4, 1000)])?;
     assert_eq!(rt;
-        judged(&rt, &rice, &right, &fed),
+        judge(&rt, &rice, &right, &fed),
         (17_700_000, Leaf::AtLeast(8_850_000))
     );
     let trivial = Mult::trivial(alloc);
-    assert_eq!(rt; judged(&rt, &rice, &right, &trivial), (0, Leaf::AtLeast(0)));
+    assert_eq!(rt; judge(&rt, &rice, &right, &trivial), (0, Leaf::AtLeast(0)));
     Ok(())
 }
 
@@ -130,6 +144,46 @@ fn rows_and_signs_are_looked_at(rt: HostRuntime) -> Result<(), Fail> {
     assert!(rt; mult(&rt, alloc, 0, &[(3, -1)])?.admissible(&rice));
     assert!(rt; !mult(&rt, alloc, 0, &[(6, 1)])?.admissible(&rice));
     assert!(rt; !mult(&rt, alloc, 0, &[(4_294_967_295, 1)])?.admissible(&rice));
+    Ok(())
+}
+
+#[test]
+fn the_first_wrong_entry_is_named(rt: HostRuntime) -> Result<(), Fail> {
+    let alloc = rt.alloc();
+    let rice = rice(&rt, alloc)?;
+    let below = mult(&rt, alloc, 1, &[(0, 1), (2, -1), (6, 1)])?;
+    assert_eq!(rt; below.first_fault(&rice), Some(EntryFault::Sign(2)));
+    let missing = mult(&rt, alloc, 1, &[(3, -1), (6, -1)])?;
+    assert_eq!(rt; missing.first_fault(&rice), Some(EntryFault::RowNumber(6)));
+    let right = mult(&rt, alloc, 1, &[(0, 1), (3, -1)])?.copy(alloc)?;
+    assert_eq!(rt; right.entries(), [(0u32, 1i64), (3, -1)].as_slice());
+    assert_eq!(rt; right.first_fault(&rice), None);
+    Ok(())
+}
+
+/// Ten rows on one quantity from 0 to 10, of cost 1: it is at least 0, at least 1, and so on to 9.
+fn stairs(rt: &impl Abort, alloc: Global) -> Result<System, ModelFault> {
+    let mut rows = RowList::new(alloc);
+    for step in 0..10 {
+        push(rt, &mut rows, RowKind::Ge, step, &[(0, 1)])?;
+    }
+    let root = range(rt, alloc, &[0], &[10])?;
+    system(rt, alloc, &rows, &root, &[1])
+}
+
+/// A list by row would take ten places for the one entry, so that it is looked for.
+#[test]
+fn one_entry_at_a_late_row(rt: HostRuntime) -> Result<(), Fail> {
+    let alloc = rt.alloc();
+    let stairs = stairs(&rt, alloc)?;
+    let last = mult(&rt, alloc, 1, &[(9, 1)])?;
+    assert_eq!(rt;
+        judge(&rt, &stairs, stairs.root(), &last),
+        (9, Leaf::AtLeast(9))
+    );
+    let low = range(&rt, alloc, &[0], &[8])?;
+    let alone = mult(&rt, alloc, 0, &[(9, 1)])?;
+    assert_eq!(rt; judge(&rt, &stairs, &low, &alone), (1, Leaf::Empty));
     Ok(())
 }
 
@@ -147,7 +201,7 @@ fn bounds_are_rounded_up(rt: HostRuntime) {
 }
 
 /// The clip of `q` and of multipliers of rows 0 and 2.
-fn clipped(alloc: Global, q: i128, first: i128, third: i128) -> Result<Mult, OutOfMemory>
+fn two_rows(alloc: Global, q: i128, first: i128, third: i128) -> Result<Mult, OutOfMemory>
     requires { pos 0 ≤ℤ q }
 {
     clip(alloc, q, &[(0, first), (2, third)])
@@ -158,19 +212,19 @@ fn numbers_are_halved_together(rt: HostRuntime) -> Result<(), Fail> {
     let alloc = rt.alloc();
     let whole = 288_230_376_151_711_744;
     let three = 216_172_782_113_783_808;
-    let kept = clipped(alloc, whole, three, -5)?;
+    let kept = two_rows(alloc, whole, three, -5)?;
     assert_eq!(rt; kept.q(), 72_057_594_037_927_936);
     assert_eq!(rt;
         kept.entries(),
         [(0u32, 54_043_195_528_445_952i64), (2, -1)].as_slice()
     );
-    let dropped = clipped(alloc, whole, three, -3)?;
+    let dropped = two_rows(alloc, whole, three, -3)?;
     assert_eq!(rt; dropped.q(), 72_057_594_037_927_936);
     assert_eq!(rt;
         dropped.entries(),
         [(0u32, 54_043_195_528_445_952i64)].as_slice()
     );
-    let small = clipped(alloc, 0, 7, -7)?;
+    let small = two_rows(alloc, 0, 7, -7)?;
     assert_eq!(rt; small.q(), 0);
     assert_eq!(rt; small.entries(), [(0u32, 7i64), (2, -7)].as_slice());
     let lost = clip(alloc, 1, &[(0, 144_115_188_075_855_872)])?;
@@ -190,7 +244,7 @@ fn many_quantities_and_no_row(rt: HostRuntime) -> Result<(), Fail> {
     let system = system(&rt, alloc, &rows, &root, &costs)?;
     let twice = mult(&rt, alloc, 2, &[])?;
     assert_eq!(rt;
-        judged(&rt, &system, &root, &twice),
+        judge(&rt, &system, &root, &twice),
         (120_000, Leaf::AtLeast(60_000))
     );
     Ok(())
@@ -207,8 +261,8 @@ fn the_largest_numbers_do_not_overflow(rt: HostRuntime) -> Result<(), Fail> {
     let root = range(&rt, alloc, &[1, 0], &[1, most])?;
     let system = system(&rt, alloc, &rows, &root, &[most, 1])?;
     let all = mult(&rt, alloc, often, &[(0, often), (1, -often)])?;
-    // The right sides give 2^56 * (2^64 - 1), and the quantities 3 * 2^56 * (2^51 - 1) and -2^56 * (2^51 - 1).
-    let (sum, _) = judged(&rt, &system, &root, &all);
+    // The right-hand sides give 2^56 * (2^64 - 1), and the quantities 3 * 2^56 * (2^51 - 1) and -2^56 * (2^51 - 1).
+    let (sum, _) = judge(&rt, &system, &root, &all);
     assert_eq!(rt;
         sum,
         72_057_594_037_927_936 * 18_446_744_073_709_551_615
@@ -230,7 +284,7 @@ fn spread(alloc: Global, row: u32) -> Result<Vec<(u32, i64)>, AllocError> {
     Ok(terms)
 }
 
-/// The benchmark: 100 bounds on a system of 20,000 quantities, 20,000 rows and 262,144 terms, with a multiplier for each row.
+/// The benchmark: 20 bounds on a system of 20,000 quantities, 20,000 rows and 262,144 terms, with a multiplier for each row.
 #[test]
 fn many_bounds_of_a_full_system(rt: HostRuntime) -> Result<(), Fail> {
     let alloc = rt.alloc();
@@ -257,9 +311,9 @@ fn many_bounds_of_a_full_system(rt: HostRuntime) -> Result<(), Fail> {
     let within = root.lies_in(system.root());
     assert!(rt; within);
     let first = bound(&system, &root, &mult);
-    for _ in 1..100 {
+    for _ in 1..20 {
         assert_eq!(rt; bound(&system, &root, &mult), first);
     }
-    println!(rt; "quantities 20000 rows 20000 terms 262144 bounds 100")?;
+    println!(rt; "quantities 20000 rows 20000 terms 262144 bounds 20")?;
     Ok(())
 }

@@ -10,7 +10,7 @@ use Rattle.std.proofs.lemmas.Bool.{and_parts}
 use Rattle.std.proofs.lemmas.List.Sums.{AllPass-from_list_all}
 use Rattle.std.proofs.lemmas.List.Quantifiers.{position-Some}
 use Rattle.opt_model.specs.Tables.{Tables}
-use Rattle.opt_model.specs.Quantities.{names, low, high, same_quantity}
+use Rattle.opt_model.specs.Quantities.{quantities, low, high, same_quantity}
 use Rattle.opt_model.specs.Rows.{Relation, at_least, equal, Row, rows}
 use Rattle.opt_model.specs.Plans.{Plan, sum_of, Stands, Feasible, plan_of}
 use Rattle.opt_model.specs.declared.quantity.Quantity.{Quantity}
@@ -43,7 +43,7 @@ holds plan r = stands r.relation (sum_of r.left plan) r.right
 
 -- a plan is within all ranges and meets all rows
 abbrev pub is_feasible : Tables → Plan → Bool
-is_feasible t plan = list_all (is_within t plan) (names t) && list_all (holds plan) (rows t)
+is_feasible t plan = list_all (is_within t plan) (quantities t) && list_all (holds plan) (rows t)
 
 stands_fact : (r : Relation) (x y : ℤ) → stands r x y ≡ true → Stands r x y
 stands_fact at_least x y e = le_from_test y x e
@@ -65,15 +65,15 @@ pub plan_of_lists_only : (qs : List Quantity) (xs : List ℤ) (q : Quantity) →
 plan_of_lists_only qs xs q other = listed qs xs q (position (same_quantity q) qs) refl other
 
 -- a plan of values that passes the test is feasible
-pub feasible_from_test : (t : Tables) (xs : List ℤ) → is_feasible t (plan_of (names t) xs) ≡ true → Feasible t (plan_of (names t) xs)
+pub feasible_from_test : (t : Tables) (xs : List ℤ) → is_feasible t (plan_of (quantities t) xs) ≡ true → Feasible t (plan_of (quantities t) xs)
 feasible_from_test t xs e =
-    let plan : Plan = plan_of (names t) xs in
-    let parts : (list_all (is_within t plan) (names t) ≡ true) × (list_all (holds plan) (rows t) ≡ true) = and_parts _ _ e in
+    let plan : Plan = plan_of (quantities t) xs in
+    let parts : (list_all (is_within t plan) (quantities t) ≡ true) × (list_all (holds plan) (rows t) ≡ true) = and_parts _ _ e in
     record {
-      lists_only = plan_of_lists_only (names t) xs;
+      lists_only = plan_of_lists_only (quantities t) xs;
       in_range = λ k d h.
-          let both : (int_le (low t (get_or (names t) k d)) (plan (get_or (names t) k d)) ≡ true) × (int_le (plan (get_or (names t) k d)) (high t (get_or (names t) k d)) ≡ true) =
-          and_parts _ _ (AllPass-from_list_all (is_within t plan) (names t) parts.0 k d h) in
+          let both : (int_le (low t (get_or (quantities t) k d)) (plan (get_or (quantities t) k d)) ≡ true) × (int_le (plan (get_or (quantities t) k d)) (high t (get_or (quantities t) k d)) ≡ true) =
+          and_parts _ _ (AllPass-from_list_all (is_within t plan) (quantities t) parts.0 k d h) in
           (le_from_test _ _ both.0, le_from_test _ _ both.1);
       rows_hold = λ k d h. stands_fact (get_or (rows t) k d).relation _ _ (AllPass-from_list_all (holds plan) (rows t) parts.1 k d h);
     }

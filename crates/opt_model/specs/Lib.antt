@@ -1,4 +1,5 @@
 pub mod Settings
+pub mod Columns
 pub mod Tables
 pub mod Quantities
 pub mod Rows

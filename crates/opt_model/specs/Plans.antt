@@ -3,7 +3,7 @@ use Rattle.std.specs.Prelude.{◌≡◌, ◌≢◌, ℕ, List, [], ◌∷◌, Al
 use Rattle.std.specs.List.{position}
 use Rattle.std.specs.Option.{option_map_or}
 use Rattle.opt_model.specs.Tables.{Tables}
-use Rattle.opt_model.specs.Quantities.{names, low, high, same_quantity, step_of}
+use Rattle.opt_model.specs.Quantities.{quantities, low, high, same_quantity, step_of}
 use Rattle.opt_model.specs.Rows.{Terms, Relation, at_least, equal, Row, rows, cost_terms, lack_terms}
 use Rattle.opt_model.specs.declared.records.Goal.{Goal}
 use Rattle.opt_model.specs.declared.records.Goal.TheVariants.{Cost, Shortfall}
@@ -34,8 +34,8 @@ Holds plan r = Stands r.relation (sum_of r.left plan) r.right
 
 -- a plan is possible: it lists existing quantities alone, each within its range, and meets every row
 pub record Feasible (t : Tables) (plan : Plan) : Type 0 where
-  pub lists_only : (q : Quantity) → plan q ≢ pos 0 → Contains (names t) q
-  pub in_range : All (λ q. (low t q ≤ℤ plan q) × (plan q ≤ℤ high t q)) (names t)
+  pub lists_only : (q : Quantity) → plan q ≢ pos 0 → Contains (quantities t) q
+  pub in_range : All (λ q. (low t q ≤ℤ plan q) × (plan q ≤ℤ high t q)) (quantities t)
   pub rows_hold : All (Holds plan) (rows t)
 
 -- the terms of the objective that the settings name
@@ -52,12 +52,12 @@ abbrev pub lack_of : Tables → Plan → ℤ
 lack_of t plan = sum_of (lack_terms t) plan
 
 -- the objective of a plan
-abbrev pub goal_of : Tables → Plan → ℤ
-goal_of t plan = sum_of (goal_terms t t.settings.goal) plan
+abbrev pub objective_of : Tables → Plan → ℤ
+objective_of t plan = sum_of (goal_terms t t.settings.goal) plan
 
 -- no feasible plan's objective lies below the bound
 abbrev pub Below : Tables → ℤ → Type 0
-Below t bound = (plan : Plan) → Feasible t plan → bound ≤ℤ goal_of t plan
+Below t bound = (plan : Plan) → Feasible t plan → bound ≤ℤ objective_of t plan
 
 -- the plan of a list of values, one for each quantity of a list
 abbrev pub plan_of : List Quantity → List ℤ → Plan

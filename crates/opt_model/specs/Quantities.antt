@@ -21,8 +21,8 @@ abbrev pub over_months : {B : Type 0} → Tables → (ℕ → List B) → List B
 over_months t f = flat_map f (range_with_len 1 t.settings.months)
 
 -- a list where a test holds, else nothing
-abbrev pub given : {A : Type 0} → Bool → List A → List A
-given test xs = cond test xs []
+abbrev pub list_if : {A : Type 0} → Bool → List A → List A
+list_if test xs = cond test xs []
 
 -- the quotient rounded down, by a divisor above 0
 abbrev pub floor_div : ℤ → ℤ → ℤ
@@ -78,27 +78,27 @@ shorts t = over t.needs λ d _. over_months t λ m. Short d m ∷ []
 
 -- a purchase for every offer, in the months of the plan from its first to its last
 abbrev pub buys : Tables → List Quantity
-buys t = over t.offers λ o offer. over_months t λ m. given (is_offered offer m) (Buy o m ∷ [])
+buys t = over t.offers λ o offer. over_months t λ m. list_if (is_offered offer m) (Buy o m ∷ [])
 
 -- a shipment for every arc and commodity, in the months of departure whose arrival lies within the plan
 abbrev pub ships : Tables → List Quantity
-ships t = over t.arcs λ a arc. over t.commodities λ c _. over_months t λ m. given (nat_le (m + arc.lead) t.settings.months) (Ship a c m ∷ [])
+ships t = over t.arcs λ a arc. over t.commodities λ c _. over_months t λ m. list_if (nat_le (m + arc.lead) t.settings.months) (Ship a c m ∷ [])
 
 -- what is kept at every place with storage, of every commodity, at the end of every month
 abbrev pub keeps : Tables → List Quantity
-keeps t = over t.places λ p place. over t.commodities λ c _. over_months t λ m. given (int_lt (pos 0) place.storage) (Keep p c m ∷ [])
+keeps t = over t.places λ p place. over t.commodities λ c _. over_months t λ m. list_if (int_lt (pos 0) place.storage) (Keep p c m ∷ [])
 
 -- what is handed out at every point, of every commodity, in the months in which it feeds somebody
 abbrev pub feeds : Tables → List Quantity
-feeds t = over t.places λ p place. over t.commodities λ c _. over_months t λ m. given (is_point place.kind && int_le (pos 1) (all_heads t p m)) (Feed p c m ∷ [])
+feeds t = over t.places λ p place. over t.commodities λ c _. over_months t λ m. list_if (is_point place.kind && int_le (pos 1) (all_heads t p m)) (Feed p c m ∷ [])
 
 -- whether an offer with a fee or a least lot is used, where its purchase exists
 abbrev pub orders : Tables → List Quantity
-orders t = over t.offers λ o offer. over_months t λ m. given (is_offered offer m && has_order offer) (Order o m ∷ [])
+orders t = over t.offers λ o offer. over_months t λ m. list_if (is_offered offer m && has_order offer) (Order o m ∷ [])
 
 -- the quantities that exist, in the order of their numbers
-abbrev pub names : Tables → List Quantity
-names t = rations t ++ (shorts t ++ (buys t ++ (ships t ++ (keeps t ++ (feeds t ++ orders t)))))
+abbrev pub quantities : Tables → List Quantity
+quantities t = rations t ++ (shorts t ++ (buys t ++ (ships t ++ (keeps t ++ (feeds t ++ orders t)))))
 
 -- two quantities are the same
 abbrev pub same_quantity : Quantity → Quantity → Bool
@@ -136,8 +136,8 @@ high t (Feed p c m) = ceil_div (most_grams t p c m) (pos 1000)
 high t (Order o m) = pos 1
 
 -- the product of the counts of values that the quantities can take
-abbrev pub points : Tables → ℤ
-points t = points_in (names t)
+abbrev pub point_count : Tables → ℤ
+point_count t = points_in (quantities t)
   where
     points_in : List Quantity → ℤ
     points_in [] = pos 1

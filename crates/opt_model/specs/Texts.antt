@@ -1,5 +1,5 @@
 -- What is printed and written: the verdict's line, a refusal's line, and the plan file.
-use Rattle.std.specs.Prelude.{ℕ, cond, nat_le, ◌-◌, ◌==◌, List, [], ◌∷◌, ◌++◌, Option, Some, None, ℤ, pos, ◌-ℤ◌, ◌*ℤ◌, not, if◌then◌else◌, codes, slice_get, slice_index_or}
+use Rattle.std.specs.Prelude.{ℕ, cond, ◌==◌, List, [], ◌∷◌, ◌++◌, Option, Some, None, ℤ, pos, ◌-ℤ◌, ◌*ℤ◌, not, if◌then◌else◌, codes, slice_get}
 use Rattle.std.specs.List.{flat_map}
 use Rattle.std.specs.Option.{option_map_or}
 use Rattle.std.specs.Ordering.{int_eq}
@@ -10,13 +10,15 @@ use Rattle.opt_base.specs.declared.refusal.File.TheVariants as file
 use Rattle.opt_base.specs.declared.refusal.Kind.{Kind}
 use Rattle.opt_base.specs.declared.refusal.Kind.TheVariants as kind
 use Rattle.opt_base.specs.declared.refusal.Refusal.{Refusal}
+use Rattle.opt_model.specs.Settings.{has_baskets}
+use Rattle.opt_model.specs.Columns.{column_names, column_name}
 use Rattle.opt_model.specs.Tables.{Tables}
-use Rattle.opt_model.specs.Quantities.{names, given, step_of}
+use Rattle.opt_model.specs.Quantities.{quantities, list_if, step_of}
 use Rattle.opt_model.specs.Plans.{Plan}
 use Rattle.opt_model.specs.declared.quantity.Quantity.{Quantity}
 use Rattle.opt_model.specs.declared.quantity.Quantity.TheVariants.{Ration, Short, Buy, Ship, Keep, Feed, Order}
-use Rattle.opt_model.specs.declared.verdict.Verdict.{Verdict}
-use Rattle.opt_model.specs.declared.verdict.Verdict.TheVariants as verdict
+use Rattle.opt_base.specs.declared.verdict.Verdict.{Verdict}
+use Rattle.opt_base.specs.declared.verdict.Verdict.TheVariants as verdict
 
 -- a line: a text and its line feed
 abbrev pub line : List ℕ → List ℕ
@@ -28,12 +30,12 @@ best_text None = codes "none"
 best_text (Some best) = signed_decimal best
 
 -- the verdict's line, with the number of nodes
-abbrev pub verdict_line : Verdict → ℕ → List ℕ
-verdict_line (verdict.Plan objective bound) nodes =
+abbrev pub outcome_line : Verdict → ℕ → List ℕ
+outcome_line (verdict.Plan objective bound) nodes =
     codes "plan " ++ (signed_decimal objective ++ (codes " bound " ++ (signed_decimal bound
     ++ (codes " gap " ++ (signed_decimal (objective -ℤ bound) ++ (codes " nodes " ++ (decimal nodes ++ 10 ∷ [])))))))
-verdict_line verdict.NoPlan nodes = codes "no plan nodes " ++ (decimal nodes ++ 10 ∷ [])
-verdict_line (verdict.Unfinished bound best) nodes =
+outcome_line verdict.NoPlan nodes = codes "no plan nodes " ++ (decimal nodes ++ 10 ∷ [])
+outcome_line (verdict.Unfinished bound best) nodes =
     codes "unfinished bound " ++ (signed_decimal bound ++ (codes " best " ++ (best_text best ++ (codes " nodes " ++ (decimal nodes ++ 10 ∷ [])))))
 
 -- the name of a file
@@ -55,30 +57,6 @@ file_name file.Plan = codes "plan.csv"
 file_name file.Certificate = codes "certificate.txt"
 file_name file.Edits = codes "edits"
 file_name file.Executed = codes "executed.csv"
-
--- the names of a file's columns or keys, in the order of their numbers
-abbrev pub column_names : File → List (List ℕ)
-column_names file.Settings = codes "format" ∷ codes "months" ∷ codes "days" ∷ codes "goal" ∷ codes "gap" ∷ codes "nodes" ∷ codes "budget" ∷ []
-column_names file.Commodities = codes "commodity" ∷ codes "group" ∷ codes "min_g" ∷ codes "max_g" ∷ codes "step_g" ∷ []
-column_names file.Groups = codes "group" ∷ codes "min_g" ∷ codes "max_g" ∷ []
-column_names file.Nutrients = codes "nutrient" ∷ codes "required" ∷ codes "max_short" ∷ codes "weight" ∷ []
-column_names file.Contents = codes "commodity" ∷ codes "nutrient" ∷ codes "per_100g" ∷ []
-column_names file.Places = codes "place" ∷ codes "kind" ∷ codes "storage" ∷ codes "throughput" ∷ codes "handling" ∷ codes "storage_cost" ∷ []
-column_names file.Offers = codes "offer" ∷ codes "place" ∷ codes "commodity" ∷ codes "price" ∷ codes "max_kg" ∷ codes "first" ∷ codes "last" ∷ codes "fee" ∷ codes "least" ∷ []
-column_names file.Arcs = codes "arc" ∷ codes "from" ∷ codes "to" ∷ codes "cost" ∷ codes "capacity" ∷ codes "lead" ∷ []
-column_names file.Persons = codes "place" ∷ codes "month" ∷ codes "persons" ∷ codes "basket" ∷ []
-column_names file.Stock = codes "place" ∷ codes "commodity" ∷ codes "month" ∷ codes "kg" ∷ []
-column_names file.Baskets = codes "basket" ∷ []
-column_names file.Needs = codes "basket" ∷ codes "nutrient" ∷ codes "required" ∷ codes "max_short" ∷ codes "weight" ∷ []
-column_names file.Model = codes "quantities" ∷ codes "rows" ∷ codes "terms" ∷ []
-column_names file.Plan = codes "quantity" ∷ codes "name" ∷ codes "commodity" ∷ codes "month" ∷ codes "amount" ∷ []
-column_names file.Certificate = []
-column_names file.Edits = codes "file" ∷ codes "record" ∷ codes "column" ∷ codes "value" ∷ []
-column_names file.Executed = codes "quantity" ∷ codes "name" ∷ codes "commodity" ∷ codes "month" ∷ codes "amount" ∷ []
-
--- the name of a column or key, numbered from 1
-abbrev pub column_name : File → ℕ → List ℕ
-column_name f column = slice_index_or (column_names f) (column - 1) []
 
 -- what a kind of refusal is called, with the count that it carries
 abbrev pub kind_text : Kind → List ℕ
@@ -115,22 +93,22 @@ abbrev pub refusal_line : Refusal → List ℕ
 refusal_line r = codes "refused " ++ (file_name r.file ++ (record_text r.number ++ (column_text r.file r.column ++ (codes ": " ++ (kind_text r.kind ++ 10 ∷ [])))))
 
 -- the name of a record, or nothing where there is no such record
-abbrev pub name_at : {A : Type 0} → List A → ℕ → (A → List ℕ) → List ℕ
-name_at records number name = option_map_or name (slice_get records number) []
+abbrev pub record_name : {A : Type 0} → List A → ℕ → (A → List ℕ) → List ℕ
+record_name records number name = option_map_or name (slice_get records number) []
 
 -- what a plan file calls a quantity: its word, its name, its commodity. From format 2 on rations and shortfalls name their basket
 abbrev pub words_of : Tables → Quantity → List (List ℕ)
-words_of t (Ration b c m) = cond (nat_le 2 t.settings.format)
-    (codes "ration" ∷ name_at t.baskets b (λ r. r.basket) ∷ name_at t.commodities c (λ r. r.commodity) ∷ [])
-    (codes "ration" ∷ name_at t.commodities c (λ r. r.commodity) ∷ [] ∷ [])
-words_of t (Short d m) = cond (nat_le 2 t.settings.format)
-    (codes "short" ∷ name_at t.needs d (λ r. name_at t.baskets r.basket (λ b. b.basket)) ∷ name_at t.needs d (λ r. name_at t.nutrients r.nutrient (λ n. n.nutrient)) ∷ [])
-    (codes "short" ∷ name_at t.needs d (λ r. name_at t.nutrients r.nutrient (λ n. n.nutrient)) ∷ [] ∷ [])
-words_of t (Buy o m) = codes "buy" ∷ name_at t.offers o (λ r. r.offer) ∷ [] ∷ []
-words_of t (Ship a c m) = codes "ship" ∷ name_at t.arcs a (λ r. r.arc) ∷ name_at t.commodities c (λ r. r.commodity) ∷ []
-words_of t (Keep p c m) = codes "keep" ∷ name_at t.places p (λ r. r.place) ∷ name_at t.commodities c (λ r. r.commodity) ∷ []
-words_of t (Feed p c m) = codes "feed" ∷ name_at t.places p (λ r. r.place) ∷ name_at t.commodities c (λ r. r.commodity) ∷ []
-words_of t (Order o m) = codes "order" ∷ name_at t.offers o (λ r. r.offer) ∷ [] ∷ []
+words_of t (Ration b c m) = cond (has_baskets t.settings.format)
+    (codes "ration" ∷ record_name t.baskets b (λ r. r.basket) ∷ record_name t.commodities c (λ r. r.commodity) ∷ [])
+    (codes "ration" ∷ record_name t.commodities c (λ r. r.commodity) ∷ [] ∷ [])
+words_of t (Short d m) = cond (has_baskets t.settings.format)
+    (codes "short" ∷ record_name t.needs d (λ r. record_name t.baskets r.basket (λ b. b.basket)) ∷ record_name t.needs d (λ r. record_name t.nutrients r.nutrient (λ n. n.nutrient)) ∷ [])
+    (codes "short" ∷ record_name t.needs d (λ r. record_name t.nutrients r.nutrient (λ n. n.nutrient)) ∷ [] ∷ [])
+words_of t (Buy o m) = codes "buy" ∷ record_name t.offers o (λ r. r.offer) ∷ [] ∷ []
+words_of t (Ship a c m) = codes "ship" ∷ record_name t.arcs a (λ r. r.arc) ∷ record_name t.commodities c (λ r. r.commodity) ∷ []
+words_of t (Keep p c m) = codes "keep" ∷ record_name t.places p (λ r. r.place) ∷ record_name t.commodities c (λ r. r.commodity) ∷ []
+words_of t (Feed p c m) = codes "feed" ∷ record_name t.places p (λ r. r.place) ∷ record_name t.commodities c (λ r. r.commodity) ∷ []
+words_of t (Order o m) = codes "order" ∷ record_name t.offers o (λ r. r.offer) ∷ [] ∷ []
 
 -- the month of a quantity
 abbrev pub month_of : Quantity → ℕ
@@ -143,18 +121,18 @@ month_of (Feed p c m) = m
 month_of (Order o m) = m
 
 -- the amount that a plan file gives of a quantity: grams of a ration, else the value itself
-abbrev pub amount_of : Tables → Plan → Quantity → ℤ
-amount_of t plan (Ration b c m) = step_of t c *ℤ plan (Ration b c m)
-amount_of t plan q = plan q
+abbrev pub plan_amount : Tables → Plan → Quantity → ℤ
+plan_amount t plan (Ration b c m) = step_of t c *ℤ plan (Ration b c m)
+plan_amount t plan q = plan q
 
 -- the fields of a quantity's record in a plan file
 abbrev pub plan_fields : Tables → Plan → Quantity → List (List ℕ)
-plan_fields t plan q = words_of t q ++ decimal (month_of q) ∷ signed_decimal (amount_of t plan q) ∷ []
+plan_fields t plan q = words_of t q ++ decimal (month_of q) ∷ signed_decimal (plan_amount t plan q) ∷ []
 
 -- a record for each quantity of a list whose value is not 0, in order
 abbrev pub plan_records : Tables → Plan → List Quantity → List ℕ
-plan_records t plan qs = flat_map (λ q. given (not (int_eq (plan q) (pos 0))) (row_text default_writer (plan_fields t plan q))) qs
+plan_records t plan qs = flat_map (λ q. list_if (not (int_eq (plan q) (pos 0))) (row_text default_writer (plan_fields t plan q))) qs
 
 -- the plan file: the names of the columns, then a record for each quantity with a value other than 0, by number
 abbrev pub plan_text : Tables → Plan → List ℕ
-plan_text t plan = row_text default_writer (column_names file.Plan) ++ plan_records t plan (names t)
+plan_text t plan = row_text default_writer (column_names file.Plan) ++ plan_records t plan (quantities t)

@@ -2,14 +2,14 @@
 use Rattle.std.specs.Prelude.{◌≡◌, ℕ, ◌/◌, ◌^◌, min, max, length, Some, None, ℤ, pos, ◌-ℤ◌, ◌≤ℤ◌}
 use Rattle.opt_model.specs.Tables.{Tables}
 use Rattle.opt_model.specs.Rows.{rows}
-use Rattle.opt_model.specs.Plans.{Plan, Feasible, goal_of, Below}
-use Rattle.opt_model.specs.declared.verdict.Verdict.{Verdict}
-use Rattle.opt_model.specs.declared.verdict.Verdict.TheVariants as verdict
+use Rattle.opt_model.specs.Plans.{Plan, Feasible, objective_of, Below}
+use Rattle.opt_base.specs.declared.verdict.Verdict.{Verdict}
+use Rattle.opt_base.specs.declared.verdict.Verdict.TheVariants as verdict
 
 -- a feasible plan of this objective
 pub record Attains (t : Tables) (plan : Plan) (objective : ℤ) : Type 0 where
   pub feasible : Feasible t plan
-  pub objective_is : goal_of t plan ≡ objective
+  pub objective_is : objective_of t plan ≡ objective
 
 -- a plan whose objective lies above the bound by at most the permitted gap
 pub record WithinGap (t : Tables) (plan : Plan) (objective bound : ℤ) : Type 0 where

@@ -2,19 +2,24 @@
 //! the names of its rows. What a plan must meet is defined in this crate's specs.
 #![tactic(auto)]
 
+mod columns;
 mod file;
+mod format;
+mod limits;
 mod name;
 mod quantity;
 mod records;
 #[cfg(test)]
 mod tests;
-mod verdict;
 
+pub use columns::{column_name, columns_of};
 pub use file::file_name;
+pub use format::{has_baskets, has_lots};
+pub use limits::{BASKET_LIMIT, LAST_FORMAT};
 pub use name::Name;
+pub use opt_base::Verdict;
 pub use quantity::{Quantity, RowName};
 pub use records::{
     Arc, Basket, Commodity, Content, Goal, Group, Need, Nutrient, Offer, Persons, Place, PlaceKind,
     Stock,
 };
-pub use verdict::Verdict;

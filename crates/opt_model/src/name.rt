@@ -1,6 +1,7 @@
 ghost use Rattle.std.specs.Prelude.{◌≡◌, IfOk};
 
-use std::alloc::{AllocError, Global};
+use opt_base::OutOfMemory;
+use std::alloc::Global;
 use std::marker::Model;
 
 /// The name of a record, of 1 to 64 bytes where it was read from a table. Contracts see its bytes.
@@ -19,7 +20,7 @@ impl Model for Name {
 
 impl Name {
     /// A name of these bytes.
-    pub fn new(alloc: Global, text: &str) -> Result<Name, AllocError>
+    pub fn new(alloc: Global, text: &str) -> Result<Name, OutOfMemory>
         ensures { IfOk result (λ name. name ≡ text.now) }
     {
         Ok(Name {

@@ -8,16 +8,17 @@ use Rattle.csv.specs.Reading.{default_config, records, strip_bom}
 use Rattle.opt_base.specs.Answers.{each, ◌>>=◌}
 use Rattle.opt_base.specs.declared.refusal.File.{File}
 use Rattle.opt_base.specs.declared.refusal.Refusal.{Refusal}
-use Rattle.opt_read.specs.Grid.{body_of, evenness_of, grid_of, header_of, names_of, picked, place_of, places_of, rows_of, stripped, table_of}
+use Rattle.opt_model.specs.Columns.{names_of}
+use Rattle.opt_read.specs.Grid.{body_of, even_table, evenness_of, grid_of, header_of, projection, place_of, places_of, rows_of, without_blanks, table_of}
 use Rattle.opt_read.specs.Reading.{text_of}
 use Rattle.opt_read.proofs.ReadLemmas.{went_on}
 use Rattle.opt_read.proofs.RecordLemmas.{records-few}
 
-abbrev with_place : File → List (List ℕ) → ℕ → List ℕ → List ℕ → Result (List ℕ) Refusal
+abbrev pub with_place : File → List (List ℕ) → ℕ → List ℕ → List ℕ → Result (List ℕ) Refusal
 with_place file header column name places = place_of file header column name >>= λ place. Ok (places ++ place ∷ [])
 
 -- a place for each name
-places-length : (file : File) (header names : List (List ℕ)) (column : ℕ) (made places : List ℕ) → each (with_place file header) column made names ≡ Ok places → length places ≡ length made + length names
+pub places-length : (file : File) (header names : List (List ℕ)) (column : ℕ) (made places : List ℕ) → each (with_place file header) column made names ≡ Ok places → length places ≡ length made + length names
 places-length file header [] column made places e = let all : made ≡ places = cc in omega (arith, ap length all)
 places-length file header (name ∷ names) column made places e =
     let w = went_on (with_place file header column name made) (λ more. each (with_place file header) (column + 1) more names) places e in
@@ -33,14 +34,14 @@ text-is file bytes text e = elim (cases_Bool (is_utf8 bytes)) [
 
 -- what a table that is read is
 grid-is : (file : File) (bytes columns : List ℕ) (rows : List (List (List ℕ))) → grid_of file bytes columns ≡ Ok rows
-    → (places : List ℕ) × (places_of file (header_of bytes) (names_of columns) ≡ Ok places) × (picked (body_of bytes) places ≡ rows)
+    → (places : List ℕ) × (places_of file (header_of bytes) (names_of columns) ≡ Ok places) × (projection (body_of bytes) places ≡ rows)
 unfolding grid_of
 grid-is file bytes columns rows e =
     let text = went_on (text_of file bytes) (λ text. table_of file (header_of text) (body_of text) (names_of columns)) rows e in
-    let places = went_on (places_of file (header_of text.0) (names_of columns)) (λ places. evenness_of file (length (header_of text.0)) (body_of text.0) >>= λ _. Ok (picked (body_of text.0) places)) rows text.2 in
-    let even = went_on (evenness_of file (length (header_of text.0)) (body_of text.0)) (λ _. Ok (picked (body_of text.0) places.0)) rows places.2 in
-    let same : picked (body_of text.0) places.0 ≡ rows = cc (even.2) in
-    subst (λ (t : List ℕ). (places : List ℕ) × (places_of file (header_of t) (names_of columns) ≡ Ok places) × (picked (body_of t) places ≡ rows)) (sym (text-is file bytes text.0 text.1)) (places.0, places.1, same)
+    let places = went_on (places_of file (header_of text.0) (names_of columns)) (even_table file (length (header_of text.0)) (body_of text.0)) rows text.2 in
+    let even = went_on (evenness_of file (length (header_of text.0)) (body_of text.0)) (λ _. Ok (projection (body_of text.0) places.0)) rows places.2 in
+    let same : projection (body_of text.0) places.0 ≡ rows = cc (even.2) in
+    subst (λ (t : List ℕ). (places : List ℕ) × (places_of file (header_of t) (names_of columns) ≡ Ok places) × (projection (body_of t) places ≡ rows)) (sym (text-is file bytes text.0 text.1)) (places.0, places.1, same)
 
 -- a table has at most as many records as its file has bytes
 pub grid-few : (file : File) (bytes columns : List ℕ) (rows : List (List (List ℕ))) → grid_of file bytes columns ≡ Ok rows → length rows ≤ length bytes
@@ -48,7 +49,7 @@ grid-few file bytes columns rows e =
     let g = grid-is file bytes columns rows e in
     let seen = length-map (body_of bytes) (λ (row : List (List ℕ)). map (λ place. slice_index_or row place []) g.0) in
     let below = length-drop 1 (rows_of bytes) in
-    let every = length-map (records default_config (strip_bom bytes)) (map stripped) in
+    let every = length-map (records default_config (strip_bom bytes)) (map without_blanks) in
     omega (arith, ap length g.2, seen, below, every, records-few bytes)
 
 -- each record has a field for each column

@@ -1,34 +1,31 @@
 -- The fields, places and records of a table.
 use Rattle.std.proofs.Common.{◌≡◌, ◌<◌, ◌+◌, ℕ, zero, suc, Bool, List, [], ◌∷◌, ◌++◌, map, take, drop, length, get_or, slice_index_or, Option, Some, None, Result, Ok, Err, refl, ap, ap₂, sym, ◌∙◌, arith}
-use Rattle.std.proofs.lemmas.List.{get_or-map, map-append, take_more, length-map}
+use Rattle.std.proofs.lemmas.List.{get_or-map, take_more, length-map}
 use Rattle.std.proofs.lemmas.List.Folds.{fold-map}
 use Rattle.std.proofs.lemmas.Bool.Decides.{nat_tests}
 use Rattle.std.specs.Borrow.{Bor}
 use Rattle.std.specs.Str.{bytes_eq}
-use Rattle.std.specs.Prelude.{◌==◌, ◌≢◌, cond, count_by, not, position}
+use Rattle.std.specs.Prelude.{◌≢◌, cond, count_by, not, position}
 use Rattle.std.specs.List.{prefix_len, take-map}
 use Rattle.csv.specs.Records.{field_at}
-use Rattle.csv.specs.Reading.{default_config, records, strip_bom}
-use Rattle.opt_read.specs.declared.cells.Cells.{Cells}
-use Rattle.opt_base.specs.Answers.{Fails, Gives, each, ◌>>=◌}
+use Rattle.opt_base.specs.Answers.{Fails, each, ◌>>=◌}
 use Rattle.opt_base.proofs.Each.{each_next}
 use Rattle.opt_base.specs.declared.refusal.ModelFault.{ModelFault}
 use Rattle.opt_base.specs.declared.refusal.ModelFault.TheVariants.{Refused, OutOfMemory}
-use Rattle.csv.specs.Records.{Row, fields_of}
 use Rattle.opt_base.specs.declared.refusal.Refusal.{Refusal}
 use Rattle.opt_base.specs.declared.refusal.File.{File}
 use Rattle.opt_base.specs.declared.refusal.Kind.TheVariants.{ColumnMissing, ColumnTwice}
-use Rattle.opt_read.specs.Reading.{refused}
-use Rattle.opt_read.specs.Grid.{body_of, even_unless, evenness_of, header_of, picked, place_of, sole_place, stripped, table_of}
+use Rattle.opt_base.specs.Refusals.{refusal_at}
+use Rattle.opt_read.specs.Grid.{place_of, sole_place, without_blanks}
 
 -- the field that csv finds in a column
-pub field-found : (fields : List (List ℕ)) (column : ℕ) (field : List ℕ) → Some field ≡ field_at fields column → stripped field ≡ slice_index_or (map stripped fields) column []
+pub field-found : (fields : List (List ℕ)) (column : ℕ) (field : List ℕ) → Some field ≡ field_at fields column → without_blanks field ≡ slice_index_or (map without_blanks fields) column []
 unfolding field_at
 field-found [] column field e = cc
-field-found (f ∷ fields) zero field e = let same : field ≡ f = cc in ap stripped same
+field-found (f ∷ fields) zero field e = let same : field ≡ f = cc in ap without_blanks same
 field-found (f ∷ fields) (suc column) field e = field-found fields column field e
 
-pub field-lacking : (fields : List (List ℕ)) (column : ℕ) → None ≡ field_at fields column → [] ≡ slice_index_or (map stripped fields) column []
+pub field-lacking : (fields : List (List ℕ)) (column : ℕ) → None ≡ field_at fields column → [] ≡ slice_index_or (map without_blanks fields) column []
 unfolding field_at
 field-lacking [] column e = refl
 field-lacking (f ∷ fields) zero e = cc
@@ -57,13 +54,13 @@ place-lent file fields column name =
     ap₂ (sole_place file column) (position-map (λ (field : Bor (List ℕ)). field.now) (λ field. bytes_eq field name) fields) (count_by-map (λ (field : Bor (List ℕ)). field.now) (λ field. bytes_eq field name) fields)
 
 pub place-missing : (file : File) (fields : List (Bor (List ℕ))) (column : ℕ) (name : List ℕ) → None ≡ position (λ field. bytes_eq field.now name) fields
-    → place_of file (map (λ field. field.now) fields) column name ≡ Err (refused file 0 column ColumnMissing)
+    → place_of file (map (λ field. field.now) fields) column name ≡ Err (refusal_at file 0 column ColumnMissing)
 place-missing file fields column name none = place-lent file fields column name ∙ ap (λ (o : Option ℕ). sole_place file column o (count_by (λ field. bytes_eq field.now name) fields)) (sym none)
 
 sole-once : (file : File) (column place times : ℕ) → times ≡ 1 → sole_place file column (Some place) times ≡ Ok place
 sole-once file column place times once = rw once
 
-sole-twice : (file : File) (column place times : ℕ) → times ≢ 1 → sole_place file column (Some place) times ≡ Err (refused file 0 column ColumnTwice)
+sole-twice : (file : File) (column place times : ℕ) → times ≢ 1 → sole_place file column (Some place) times ≡ Err (refusal_at file 0 column ColumnTwice)
 sole-twice file column place times twice = grind (arith, nat_tests)
 
 place-at : (file : File) (fields : List (Bor (List ℕ))) (column : ℕ) (name : List ℕ) (place times : ℕ) → Some place ≡ position (λ field. bytes_eq field.now name) fields
@@ -75,29 +72,8 @@ pub place-once : (file : File) (fields : List (Bor (List ℕ))) (column : ℕ) (
 place-once file fields column name place times first counted once = place-at file fields column name place times first counted ∙ sole-once file column place times once
 
 pub place-twice : (file : File) (fields : List (Bor (List ℕ))) (column : ℕ) (name : List ℕ) (place times : ℕ) → Some place ≡ position (λ field. bytes_eq field.now name) fields
-    → times ≡ count_by (λ field. bytes_eq field.now name) fields → times ≢ 1 → place_of file (map (λ field. field.now) fields) column name ≡ Err (refused file 0 column ColumnTwice)
+    → times ≡ count_by (λ field. bytes_eq field.now name) fields → times ≢ 1 → place_of file (map (λ field. field.now) fields) column name ≡ Err (refusal_at file 0 column ColumnTwice)
 place-twice file fields column name place times first counted twice = place-at file fields column name place times first counted ∙ sole-twice file column place times twice
-
--- stripping leaves a record's number of fields
-pub evenness-rows : (file : File) (width : ℕ) (rows : List Row) → evenness_of file width (map (λ row. map stripped (fields_of row)) rows) ≡ even_unless file (position (λ row. not (length (fields_of row) == width)) rows)
-evenness-rows file width rows =
-    ap (even_unless file) (position-map (λ (row : Row). map stripped (fields_of row)) (λ row. not (length row == width)) rows ∙ simp length-map)
-
--- the fields of a row, stripped
-abbrev stripped_row : Row → List (List ℕ)
-stripped_row row = map stripped (fields_of row)
-
-pub rows-stripped : (rows : List Row) → map (map stripped) (map fields_of rows) ≡ map (λ row. map stripped (fields_of row)) rows
-rows-stripped [] = refl
-rows-stripped (row ∷ rows) = ap (λ more. stripped_row row ∷ more) (rows-stripped rows)
-
--- one record more
-pub picked-more : (rows : List Row) (places : List ℕ) (i : ℕ) (d : Row) → i < length rows
-    → picked (map (λ row. map stripped (fields_of row)) (take (i + 1) rows)) places ≡ picked (map (λ row. map stripped (fields_of row)) (take i rows)) places ++ map (λ place. slice_index_or (map stripped (fields_of (get_or rows i d))) place []) places ∷ []
-picked-more rows places i d within =
-    let both : (xs ys : List Row) → picked (map stripped_row (xs ++ ys)) places ≡ picked (map stripped_row xs) places ++ picked (map stripped_row ys) places
-    = λ xs ys. ap (λ (more : List (List (List ℕ))). picked more places) (map-append stripped_row xs ys) ∙ map-append (λ (row : List (List ℕ)). map (λ place. slice_index_or row place []) places) (map stripped_row xs) (map stripped_row ys) in
-    ap (λ (more : List Row). picked (map stripped_row more) places) (take_more rows i d within) ∙ both (take i rows) (get_or rows i d ∷ [])
 
 -- one name more: what is left of the fold, where the name has a fault and where it has a place
 abbrev with_place : File → List (List ℕ) → ℕ → List ℕ → List ℕ → Result (List ℕ) Refusal
@@ -125,21 +101,3 @@ pub places-on : (file : File) (header : List (List ℕ)) (names : List (Bor (Lis
 places-on file header names i made d read place within so_far found =
     let next = places-next file header names i made d within in
     sym (rw found at next) ∙ so_far
-
--- the first record of a text and those after it
-pub header-is : (text : List ℕ) (items rows : List Row) (first : Row) → map fields_of items ≡ records default_config (strip_bom text) → items ≡ first ∷ rows
-    → header_of text ≡ map stripped (fields_of first)
-header-is text items rows first read parts = rw (← read, parts)
-
-pub body-is : (text : List ℕ) (items rows : List Row) (first : Row) → map fields_of items ≡ records default_config (strip_bom text) → items ≡ first ∷ rows
-    → body_of text ≡ map (λ row. map stripped (fields_of row)) rows
-body-is text items rows first read parts = rw (← read, parts) (rows-stripped rows)
-
-pub header-lacking : (text : List ℕ) (items : List Row) → map fields_of items ≡ records default_config (strip_bom text) → length items ≡ 0 → (header_of text ≡ []) × (body_of text ≡ [])
-header-lacking text [] read none = rw (← read) (refl, refl)
-header-lacking text (row ∷ items) read none = absurd (omega arith)
-
--- an answer for the same table
-pub same-table : (view : Cells → List (List (List ℕ))) (result : Result Cells ModelFault) (file : File) (header seen_header : List (List ℕ)) (rows seen_rows : List (List (List ℕ))) (names seen_names : List (List ℕ))
-    → header ≡ seen_header → rows ≡ seen_rows → seen_names ≡ names → Gives view result (table_of file seen_header seen_rows seen_names) → Gives view result (table_of file header rows names)
-same-table view result file header seen_header rows seen_rows names seen_names a b c gives = rw (a, b, ← c) gives

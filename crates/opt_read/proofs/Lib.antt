@@ -1,9 +1,11 @@
+mod BodyLemmas
+mod CellLemmas
 mod GridLemmas
 pub mod GridLaws
 mod ReadLemmas
 mod SettingLemmas
 pub mod SettingLaws
 mod StripLemmas
+mod RowLemmas
 mod TextLemmas
 mod RecordLemmas
-pub mod GoalLaws

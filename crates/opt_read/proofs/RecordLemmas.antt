@@ -3,15 +3,10 @@ use Rattle.std.proofs.Common.{◌≡◌, ◌<◌, ◌≤◌, ◌+◌, ℕ, zero,
 use Rattle.std.specs.Prelude.{◌==◌, if◌then◌else◌}
 use Rattle.std.proofs.lemmas.Bool.{cases_Bool}
 use Rattle.csv.specs.Machine.{Read, ends_at_end, ends_with, field_after, fields_after, in_field, start_field, start_record, is_end, next_record, step}
-use Rattle.csv.specs.Reading.{AreRecords, Reached, records, records_from, records_next, strip_bom, is_bom, default_config}
+use Rattle.csv.specs.Reading.{records, records_from, records_next, strip_bom, is_bom, default_config}
 use Rattle.csv.specs.declared.parser.Action.{Action}
 use Rattle.csv.specs.declared.parser.Action.TheVariants as act
 use Rattle.csv.specs.declared.parser.Terminator.TheVariants as term
-use Rattle.csv.specs.Reading.{ExplainsRead, is_flexible}
-use Rattle.csv.specs.declared.reader.Reader.{Reader}
-use Rattle.csv.specs.declared.error.ErrorKind.{ErrorKind}
-use Rattle.csv.specs.declared.error.ErrorKind.TheVariants as kind
-use Rattle.opt_read.specs.Records.{StopsAnyReader}
 use Rattle.csv.specs.declared.parser.Config.{Config}
 use Rattle.csv.specs.declared.parser.State.{State}
 use Rattle.csv.specs.declared.parser.State.TheVariants as st
@@ -88,20 +83,6 @@ next-between s fields field (c ∷ rest) p e = elim (cases_Bool (is_end (step de
   | inr more ↦ next-between (step default_config s c).0 (fields_after (step default_config s c).1 fields field) (field_after (step default_config s c).1 c field) rest p (rw more at e)
 ]
 
--- records that were reached one after the other, with none after them, are those of the text
-records-reached : (n : ℕ) (s s2 : State) (xs ys : List ℕ) (rows : List (List (List ℕ))) → ends_at_end s ≡ false → length xs < n
-    → Reached default_config s xs rows s2 ys → next_record default_config s2 [] [] ys ≡ None → records_from default_config n s xs ≡ rows
-unfolding Reached records_from
-records-reached zero s s2 xs ys rows between room reached none = absurd (omega arith)
-records-reached (suc n) s s2 xs ys [] between room reached none = rw (reached.0, reached.1, none)
-records-reached (suc n) s s2 xs ys (r ∷ rows) between room reached none =
-    let p = reached.0 in
-    let shorter = next-shorter default_config s [] [] xs p between reached.1 in
-    rw (reached.1, reached.2) (ap (λ more. p.0 ∷ more) (records-reached n p.1 s2 p.2 ys rows (next-between s [] [] xs p reached.1) (omega arith) reached.3 none))
-
-pub records-are : (text : List ℕ) (rows : List (List (List ℕ))) → AreRecords default_config st.StartRecord text rows → rows ≡ records default_config text
-records-are text rows are = sym (records-reached (length text + 1) st.StartRecord are.0 text are.1 rows refl (omega arith) are.2 are.3)
-
 -- a text has at most as many records as bytes
 records-within : (n : ℕ) (s : State) (xs : List ℕ) → ends_at_end s ≡ false → length (records_from default_config n s xs) ≤ length xs
 unfolding records_from
@@ -126,12 +107,3 @@ strip_bom-within (a ∷ b ∷ c ∷ rest) = elim (cases_Bool (is_bom a b c)) [
 
 pub records-few : (text : List ℕ) → length (records default_config (strip_bom text)) ≤ length text
 records-few text = omega (arith, records-within (length (strip_bom text) + 1) st.StartRecord (strip_bom text) refl, strip_bom-within text)
-
--- a reader that takes records of any length is stopped by nothing else
-pub only-memory : {R : Type 0} (rem : R → Option (List ℕ)) (old new : Reader R) (why : ErrorKind) → is_flexible old ≡ true → ExplainsRead rem old new false why → StopsAnyReader why
-only-memory rem old new (kind.Io e) flexible explains = tt
-only-memory rem old new kind.OutOfMemory flexible explains = tt
-only-memory rem old new (kind.UnequalLengths pos expected len) flexible explains = cc (flexible, explains.0)
-only-memory rem old new (kind.Utf8 pos err) flexible explains = cc (explains.0)
-only-memory rem old new (kind.Serialize why) flexible explains = explains
-only-memory rem old new (kind.Deserialize pos err) flexible explains = explains

@@ -1,8 +1,8 @@
 -- The fields of a text are text, stripped or not.
-use Rattle.std.proofs.Common.{◌≡◌, ◌<◌, ◌≤◌, ◌+◌, ◌-◌, ◌==◌, ℕ, zero, suc, Bool, true, false, List, [], ◌∷◌, ◌++◌, map, length, reverse, get_or, slice_index_or, Option, Some, None, IsUtf8, refl, ap, sym, subst, ◌∙◌, arith, inl, inr, append_assoc, append-nil}
+use Rattle.std.proofs.Common.{◌≡◌, ◌<◌, ◌≤◌, ◌-◌, ◌==◌, ℕ, zero, suc, Bool, true, false, List, [], ◌∷◌, ◌++◌, map, length, reverse, get_or, slice_index_or, Option, Some, None, IsUtf8, refl, ap, sym, subst, ◌∙◌, arith, inl, inr, append_assoc, append-nil}
 use Rattle.std.proofs.lemmas.Bool.{and_parts, cases_Bool, cases_lt, eqb-true}
 use Rattle.std.proofs.lemmas.Bool.Decides.{nat_tests}
-use Rattle.std.proofs.lemmas.List.{get_or-map, get_or-reverse, length-map, length-reverse}
+use Rattle.std.proofs.lemmas.List.{get_or-reverse, length-reverse}
 use Rattle.std.proofs.lemmas.List.Sums.{prefix_len-le-length, prefix_len_passes}
 use Rattle.std.proofs.lemmas.Str.{IsCharBoundary-after_ascii, IsCharBoundary-before_ascii, IsCharBoundary-end, IsUtf8-append, IsUtf8-drop, IsUtf8-encode, IsUtf8-nil, IsUtf8-past_char, IsUtf8-take, encode_ascii, inside_one, len_utf8_bounds, length-encode}
 use Rattle.std.specs.List.{suffix_len}
@@ -10,14 +10,14 @@ use Rattle.std.specs.Str.{IsCharBoundary}
 use Rattle.std.specs.Prelude.{All, if◌then◌else◌, ◌⊎◌, ◌&&◌}
 use lib.Utf8.{scalar, scalars, encode, encodes, low_scalar}
 use Rattle.csv.specs.Machine.{Read, ends_at_end, ends_with, field_after, fields_after, in_field, is_end, next_record, start_field, start_record, step}
-use Rattle.csv.specs.Reading.{default_config, is_bom, records, records_from, records_next, strip_bom}
-use Rattle.csv.specs.Records.{AllText, Row, fields_of}
+use Rattle.csv.specs.Reading.{default_config, is_bom, records_from, records_next, strip_bom}
+use Rattle.csv.specs.Records.{AllText}
 use Rattle.csv.specs.declared.parser.Action.{Action}
 use Rattle.csv.specs.declared.parser.Action.TheVariants as act
 use Rattle.csv.specs.declared.parser.State.{State}
 use Rattle.csv.specs.declared.parser.State.TheVariants as st
 use Rattle.csv.specs.declared.parser.Terminator.TheVariants as term
-use Rattle.opt_read.specs.Grid.{is_blank, stripped, without_back, without_front}
+use Rattle.opt_read.specs.Grid.{is_blank, without_blanks, without_back, without_front}
 use Rattle.opt_read.proofs.StripLemmas.{front-more, front-stops}
 
 -- a blank is ASCII
@@ -48,14 +48,14 @@ back-boundary field (suc k) e =
 back-text : (field : List ℕ) → IsUtf8 field → IsUtf8 (without_back field)
 back-text field u = IsUtf8-take field (length field - suffix_len is_blank field) u (back-boundary field (suffix_len is_blank field) refl)
 
-pub stripped-text : (field : List ℕ) → IsUtf8 field → IsUtf8 (stripped field)
-stripped-text field u = back-text (without_front field) (front-text field u)
+pub without_blanks-text : (field : List ℕ) → IsUtf8 field → IsUtf8 (without_blanks field)
+without_blanks-text field u = back-text (without_front field) (front-text field u)
 
 -- a stripped field of a record of text is text, also where there is none
-pub field-text : (fields : List (List ℕ)) (column : ℕ) → AllText fields → IsUtf8 (slice_index_or (map stripped fields) column [])
+pub field-text : (fields : List (List ℕ)) (column : ℕ) → AllText fields → IsUtf8 (slice_index_or (map without_blanks fields) column [])
 unfolding AllText
 field-text [] column t = IsUtf8-nil
-field-text (f ∷ fields) zero t = stripped-text f t.0
+field-text (f ∷ fields) zero t = without_blanks-text f t.0
 field-text (f ∷ fields) (suc column) t = field-text fields column t.1
 
 AllText-append : (fields : List (List ℕ)) (field : List ℕ) → AllText fields → IsUtf8 field → AllText (fields ++ field ∷ [])
@@ -262,7 +262,7 @@ All-more P x xs here later (suc k) d within = later k d (omega arith)
 pub All-rest : {A : Type 0} (P : A → Type 0) (all : List A) (x : A) (rest : List A) → all ≡ x ∷ rest → All P all → All P rest
 All-rest P all x rest parts holds k d within = (rw parts at holds) (suc k) d (omega arith)
 
-records-text : (n : ℕ) (s : State) (text : List ℕ) → IsUtf8 text → All AllText (records_from default_config n s text)
+pub records-text : (n : ℕ) (s : State) (text : List ℕ) → IsUtf8 text → All AllText (records_from default_config n s text)
 unfolding records_from AllText
 records-text zero s text u = λ k d within. absurd (omega arith)
 records-text (suc n) s text u = by (next_record default_config s [] [] text) shows (λ t ys v. records-text n t ys v)
@@ -283,7 +283,7 @@ after_mark a b c rest mark u =
     let spelled : a ∷ b ∷ c ∷ rest ≡ encode 0xFEFF ++ rest = rw (eqb-true a 0xEF both.0, eqb-true b 0xBB both.1, eqb-true c 0xBF ab.1) in
     IsUtf8-past_char (a ∷ b ∷ c ∷ rest) rest 0xFEFF u spelled
 
-strip_bom-text : (text : List ℕ) → IsUtf8 text → IsUtf8 (strip_bom text)
+pub strip_bom-text : (text : List ℕ) → IsUtf8 text → IsUtf8 (strip_bom text)
 unfolding strip_bom
 strip_bom-text [] u = u
 strip_bom-text (a ∷ []) u = u
@@ -292,9 +292,3 @@ strip_bom-text (a ∷ b ∷ c ∷ rest) u = elim (cases_Bool (is_bom a b c)) [
   | inl mark ↦ rw mark (after_mark a b c rest mark u)
   | inr other ↦ rw other u
 ]
-
--- the records that are read of a text
-pub rows-text : (text : List ℕ) (rows : List Row) → IsUtf8 text → map fields_of rows ≡ records default_config (strip_bom text) → All (λ row. AllText (fields_of row)) rows
-rows-text text rows u read =
-    let all : All AllText (map fields_of rows) = subst (λ (rs : List (List (List ℕ))). All AllText rs) (sym read) (records-text (length (strip_bom text) + 1) st.StartRecord (strip_bom text) (strip_bom-text text u)) in
-    λ k d within. subst AllText (get_or-map fields_of rows k d (fields_of d) within) (all k (fields_of d) (omega (arith, length-map rows fields_of)))

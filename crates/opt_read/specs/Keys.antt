@@ -1,5 +1,7 @@
 -- The keys of the settings.
-use Rattle.std.specs.Prelude.{ℕ, List, codes}
+use Rattle.std.specs.Prelude.{ℕ, List}
+use Rattle.opt_base.specs.declared.refusal.File.TheVariants.{Settings}
+use Rattle.opt_model.specs.Columns.{column_name}
 use Rattle.opt_read.specs.declared.key.Key.{Key}
 use Rattle.opt_read.specs.declared.key.Key.TheVariants.{Format, Months, Days, Goal, Gap, Nodes, Budget}
 
@@ -14,11 +16,5 @@ key_number Nodes = 6
 key_number Budget = 7
 
 -- a key as it stands in the file
-abbrev pub key_name : Key → List ℕ
-key_name Format = codes "format"
-key_name Months = codes "months"
-key_name Days = codes "days"
-key_name Goal = codes "goal"
-key_name Gap = codes "gap"
-key_name Nodes = codes "nodes"
-key_name Budget = codes "budget"
+unfoldable pub key_name : Key → List ℕ
+key_name key = column_name Settings (key_number key)

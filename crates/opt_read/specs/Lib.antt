@@ -1,6 +1,7 @@
+pub mod Cells
 pub mod Grid
 pub mod Keys
 pub mod Reading
-pub mod Records
+pub mod Rows
 pub mod Settings
 pub mod Setup

@@ -1,7 +1,8 @@
 -- What holds of all settings that are read.
 use Rattle.std.specs.Prelude.{◌≡◌, ◌≤◌, ℤ, pos, ◌≤ℤ◌, length, All, IfSome}
 use Rattle.opt_model.specs.Settings.{Settings}
-use Rattle.opt_read.specs.declared.limits.TheConstants.{LAST_FORMAT, MAX_AMOUNT, MAX_DAYS, MAX_MONTHS, MAX_NODES}
+use Rattle.opt_model.specs.declared.limits.TheConstants.{LAST_FORMAT}
+use Rattle.opt_read.specs.declared.limits.TheConstants.{MAX_AMOUNT, MAX_DAYS, MAX_MONTHS, MAX_NODES}
 
 -- an amount of mills or of weighted shortfall
 abbrev pub IsAmount : ℤ → Type 0

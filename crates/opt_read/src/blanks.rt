@@ -1,9 +1,9 @@
 ghost use Rattle.std.specs.Prelude.{◌≡◌};
-ghost use Rattle.opt_read.specs.Grid.{is_blank, stripped, without_back, without_front};
+ghost use Rattle.opt_read.specs.Grid.{is_blank, without_blanks, without_back, without_front};
 
 /// A field without the spaces and tabs before and after it.
 pub(crate) fn strip(field: &[u8]) -> &[u8]
-    ensures { result.now ≡ stripped field.now }
+    ensures { result.now ≡ without_blanks field.now }
 {
     strip_back(strip_front(field))
 }
@@ -13,7 +13,7 @@ fn strip_front(field: &[u8]) -> &[u8]
 {
     let mut rest = field;
     while let [first, tail @ ..] = rest
-        && blank(*first)
+        && is_blank(*first)
     {
         rest = tail;
     }
@@ -25,14 +25,14 @@ fn strip_back(field: &[u8]) -> &[u8]
 {
     let mut rest = field;
     while let [front @ .., last] = rest
-        && blank(*last)
+        && is_blank(*last)
     {
         rest = front;
     }
     rest
 }
 
-fn blank(byte: u8) -> bool
+fn is_blank(byte: u8) -> bool
     ensures { result ≡ is_blank byte }
 {
     byte == b' ' || byte == b'\t'

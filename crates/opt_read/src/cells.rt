@@ -1,56 +1,67 @@
-ghost use Rattle.std.specs.Prelude.{◌≡◌, ◌↔◌, ◌<◌, ◌^◌, vec_len, [], IsTrue, length, map, string_bytes, slice_index_or};
+ghost use Rattle.std.specs.Prelude.{◌≡◌, ◌↔◌, [], IsTrue, length};
+ghost use Rattle.csv.specs.Records.{fields_of};
+ghost use Rattle.opt_read.specs.Cells.{AreCells, records_of};
 ghost use Rattle.opt_read.specs.Grid.{field_at};
 
+use csv::StringRecord;
 use std::alloc::Global;
 use std::marker::Model;
 
 /// The fields of a table's records in the columns that were asked for, without the record that names the columns.
 /// Contracts see a list of records, each a list of its fields' bytes, spaces and tabs round a field stripped.
+///
+/// The fields stand one after the other in one text, with the place where each ends: 8 bytes a field beside its own.
 #[derive(Drop)]
 pub struct Cells {
-    records: Vec<Vec<String>>,
+    fields: StringRecord,
+    count: u32,
+    width: usize,
 }
 
 impl Model for Cells {
-    ghost use Rattle.std.specs.Prelude.{List, ℕ, ◌^◌, ◌<◌, map, vec_len, string_bytes};
+    ghost use Rattle.std.specs.Prelude.{List, ℕ};
+    ghost use Rattle.csv.specs.Records.{fields_of};
+    ghost use Rattle.opt_read.specs.Cells.{AreCells, records_of};
 
     ghost Value = { List (List (List ℕ)) };
 
-    ghost view = { λ cells. map (λ fields. map string_bytes fields.items) cells.records.items };
+    ghost view = { λ cells. records_of cells.width cells.count (fields_of cells.fields) };
 
-    ghost invariant = { λ cells. vec_len cells.records < 2 ^ 32 };
+    ghost invariant = { λ cells. AreCells cells.width cells.count (fields_of cells.fields) };
 }
 
 impl Cells {
-    /// The table of these records.
-    pub(crate) fn new(records: Vec<Vec<String>>) -> Cells
-        requires { vec_len records < 2 ^ 32 }
-        ensures { result ≡ map (λ fields. map string_bytes fields.items) records.items }
+    /// The table of so many records, each of which has `width` of these fields.
+    pub(crate) fn new(fields: StringRecord, count: u32, width: usize) -> Cells
+        requires { AreCells width count (fields_of fields) }
+        ensures { result ≡ records_of width count (fields_of fields) }
     {
-        Cells { records }
+        Cells {
+            fields,
+            count,
+            width,
+        }
     }
 
     /// No records.
     pub fn empty(alloc: Global) -> Cells
         ensures { result ≡ [] }
     {
-        Cells {
-            records: Vec::new(alloc),
-        }
+        Cells::new(StringRecord::new(alloc), 0, 0)
     }
 
     /// How many records there are.
     pub fn len(&self) -> u32
         ensures { result ≡ length self.now }
     {
-        self.records.len() as u32
+        self.count
     }
 
     /// Whether there is no record.
     pub fn is_empty(&self) -> bool
         ensures { IsTrue result ↔ (self.now ≡ []) }
     {
-        self.records.is_empty()
+        self.count == 0
     }
 
     /// The field of a record, numbered from 1, in a column, numbered from 0; empty where there is none.
@@ -60,19 +71,12 @@ impl Cells {
         let Some(index) = number.checked_sub(1) else {
             return "";
         };
-        match self.records.get(index as usize) {
-            Some(fields) => field_in(fields, column),
+        if index >= self.count || column >= self.width {
+            return "";
+        }
+        match self.fields.get(index as usize * self.width + column) {
+            Some(field) => field,
             None => "",
         }
-    }
-}
-
-/// The field in a column, or an empty text where there is none.
-fn field_in(fields: &Vec<String>, column: usize) -> &str
-    ensures { result.now ≡ slice_index_or (map string_bytes fields.now.items) column [] }
-{
-    match fields.get(column) {
-        Some(field) => field.as_str(),
-        None => "",
     }
 }

@@ -1,14 +1,15 @@
 ghost use Rattle.opt_base.specs.Answers.{Gives};
-ghost use Rattle.std.specs.Prelude.{◌≡◌, ◌<◌, ◌≤◌, ◌^◌, ◌==◌, not, [], All, IfOk, IfSome, count_by, length, map, position, slice_index_or, string_bytes};
+ghost use Rattle.std.specs.Prelude.{◌≡◌, ◌<◌, ◌≤◌, ◌^◌, ◌++◌, [], IfOk, OnOk, count_by, drop, length, map, position, slice_index_or};
 ghost use Rattle.std.specs.Str.{bytes_eq};
 ghost use Rattle.csv.specs.Records.{AllText, fields_of};
-ghost use Rattle.opt_read.specs.Grid.{body_of, evenness_of, grid_of, header_of, names_of, picked, place_of, places_of, stripped, table_of};
+ghost use Rattle.opt_model.specs.Columns.{names_of};
+ghost use Rattle.opt_read.specs.Grid.{even_table, fields_at, first_fields, grid_of, place_of, places_of, text_table_of, without_blanks};
 
 use crate::cells::Cells;
-use crate::reading::{refusal, text};
-use crate::records::{all_records, stripped_field, stripped_fields};
-use csv::ByteRecord;
-use opt_base::{File, Kind, ModelFault};
+use crate::reading::text;
+use crate::rows::{Rows, stripped_field, stripped_fields};
+use csv::{ByteRecord, StringRecord};
+use opt_base::{File, Kind, ModelFault, OutOfMemory, Refusal};
 use std::alloc::{AllocError, Global};
 use std::str;
 
@@ -31,35 +32,96 @@ pub fn grid(alloc: Global, file: File, bytes: &[u8], columns: &str) -> Result<Ce
 fn text_table(alloc: Global, file: File, text: &str, columns: &str) -> Result<Cells, ModelFault>
     requires text { length text.now < 2 ^ 32 }
     requires columns { length (names_of columns.now) ≤ 255 }
-    ensures { Gives (λ cells. cells) result (table_of file (header_of text.now) (body_of text.now) (names_of columns.now)) }
+    ensures { Gives (λ cells. cells) result (text_table_of file text.now columns.now) }
 {
     let names = names(alloc, columns)?;
-    let records = all_records(alloc, text)?;
-    match records.split_first() {
-        Some((header, rows)) => {
-            let header = stripped_fields(alloc, header)?;
-            table(alloc, file, &header, rows, &names)
-        }
-        None => table(alloc, file, &[], &[], &names),
+    let mut rows = Rows::new(alloc, text);
+    let header = read_header(alloc, file, &mut rows, &names)?;
+    read_body(alloc, file, &mut rows, header.width, &header.places)
+}
+
+/// How many fields the first record has, and the place there of each column that was asked for.
+#[derive(Drop)]
+struct Header {
+    width: usize,
+    places: Vec<usize>,
+}
+
+/// Reads the first record, which names the columns. No record has no fields.
+fn read_header(
+    alloc: Global,
+    file: File,
+    rows: &mut Rows<'_>,
+    names: &[&str],
+) -> Result<Header, ModelFault>
+    requires { length names.now ≤ 255 }
+    ensures gives { Gives (λ h. h.places.items) result (places_of file (first_fields rows.old) (map (λ n. n.now) names.now)) }
+    ensures width { IfOk result (λ header. header.width ≡ length (slice_index_or rows.old 0 [])) }
+    ensures rows { OnOk result (rows.new ≡ drop 1 rows.old) }
+{
+    let mut row = ByteRecord::new(alloc);
+    if rows.next(&mut row)? {
+        let fields = stripped_fields(alloc, &row)?;
+        let places = places(alloc, file, &fields, names)?;
+        Ok(Header {
+            width: fields.len(),
+            places,
+        })
+    } else {
+        let places = places(alloc, file, &[], names)?;
+        Ok(Header { width: 0, places })
     }
 }
 
-/// The table whose first record has these fields, and whose others are these.
-fn table(
+/// Reads the other records, each of which must have as many fields as the first.
+fn read_body(
     alloc: Global,
     file: File,
-    header: &[&[u8]],
-    rows: &[ByteRecord],
-    names: &[&str],
+    rows: &mut Rows<'_>,
+    width: usize,
+    places: &[usize],
 ) -> Result<Cells, ModelFault>
-    requires rows { length rows.now < 2 ^ 32 }
-    requires names { length names.now ≤ 255 }
-    requires text { All (λ row. AllText (fields_of row)) rows.now }
-    ensures { Gives (λ cells. cells) result (table_of file (map (λ field. field.now) header.now) (map (λ row. map stripped (fields_of row)) rows.now) (map (λ name. name.now) names.now)) }
+    requires rows { length rows.old < 2 ^ 32 }
+    requires places { length places.now ≤ 255 }
+    ensures { Gives (λ cells. cells) result (even_table file width (map (map without_blanks) rows.old) places.now) }
 {
-    let places = places(alloc, file, header, names)?;
-    check_even(file, header.len(), rows)?;
-    Ok(Cells::new(picked_records(alloc, rows, &places)?))
+    let mut fields = StringRecord::new(alloc);
+    let mut count = 0;
+    let mut row = ByteRecord::new(alloc);
+    while rows.next(&mut row)? {
+        count += 1;
+        if row.len() != width {
+            return Err(ModelFault::Refused(Refusal::of_record(file, count, Kind::Uneven)));
+        }
+        add_fields(&mut fields, &row, places)?;
+    }
+    Ok(Cells::new(fields, count, places.len()))
+}
+
+/// Adds the fields of a record of text at these places, stripped.
+fn add_fields(
+    fields: &mut StringRecord,
+    row: &ByteRecord,
+    places: &[usize],
+) -> Result<(), OutOfMemory>
+    requires { AllText (fields_of row.now) }
+    ensures { OnOk result (fields_of fields.new ≡ fields_of fields.old ++ fields_at places.now (fields_of row.now)) }
+{
+    for place in places {
+        fields.push_field(text_field(row, *place))?;
+    }
+    Ok(())
+}
+
+/// The field of a record of text at a place, stripped; empty where there is none.
+fn text_field(row: &ByteRecord, place: usize) -> &str
+    requires { AllText (fields_of row.now) }
+    ensures { result.now ≡ slice_index_or (map without_blanks (fields_of row.now)) place [] }
+{
+    match str::from_utf8(stripped_field(row, place)) {
+        Ok(field) => field,
+        Err(_) => unreachable!(),
+    }
 }
 
 /// The names that stand between commas.
@@ -77,7 +139,7 @@ fn places(
     names: &[&str],
 ) -> Result<Vec<usize>, ModelFault>
     requires { length names.now ≤ 255 }
-    ensures { Gives (λ places. places.items) result (places_of file (map (λ field. field.now) header.now) (map (λ name. name.now) names.now)) }
+    ensures { Gives (λ ps. ps.items) result (places_of file (map (λ f. f.now) header.now) (map (λ n. n.now) names.now)) }
 {
     let mut places = Vec::new(alloc);
     for (index, name) in names.iter().enumerate() {
@@ -92,12 +154,12 @@ fn place(file: File, header: &[&[u8]], column: u8, name: &str) -> Result<usize, 
 {
     let name = name.as_bytes();
     match first_place(header, name) {
-        None => Err(ModelFault::Refused(refusal(file, 0, column, Kind::ColumnMissing))),
+        None => Err(ModelFault::Refused(Refusal::at(file, 0, column, Kind::ColumnMissing))),
         Some(place) => {
             if times(header, name) == 1 {
                 Ok(place)
             } else {
-                Err(ModelFault::Refused(refusal(file, 0, column, Kind::ColumnTwice)))
+                Err(ModelFault::Refused(Refusal::at(file, 0, column, Kind::ColumnTwice)))
             }
         }
     }
@@ -115,68 +177,4 @@ fn times(header: &[&[u8]], name: &[u8]) -> usize
     ensures { result ≡ count_by (λ field. bytes_eq field.now name.now) header.now }
 {
     header.iter().filter(|field| **field == name).count()
-}
-
-/// Refuses the first record that has not this many fields.
-fn check_even(file: File, width: usize, rows: &[ByteRecord]) -> Result<(), ModelFault>
-    requires { length rows.now < 2 ^ 32 }
-    ensures { Gives (λ done. done) result (evenness_of file width (map (λ row. map stripped (fields_of row)) rows.now)) }
-{
-    match first_uneven(width, rows) {
-        None => Ok(()),
-        Some(index) => {
-            Err(ModelFault::Refused(refusal(file, index as u32 + 1, 0, Kind::Uneven)))
-        }
-    }
-}
-
-/// The first record that has not this many fields.
-fn first_uneven(width: usize, rows: &[ByteRecord]) -> Option<usize>
-    ensures first { result ≡ position (λ row. not (length (fields_of row) == width)) rows.now }
-    ensures bound { IfSome result (λ index. index < length rows.now) }
-{
-    rows.iter().position(|row| row.len() != width)
-}
-
-/// The fields of each record of text at these places.
-fn picked_records(
-    alloc: Global,
-    rows: &[ByteRecord],
-    places: &[usize],
-) -> Result<Vec<Vec<String>>, AllocError>
-    requires { All (λ row. AllText (fields_of row)) rows.now }
-    ensures { IfOk result (λ records. map (λ fields. map string_bytes fields.items) records.items ≡ picked (map (λ row. map stripped (fields_of row)) rows.now) places.now) }
-{
-    let mut records = Vec::new(alloc);
-    for row in rows {
-        records.push(picked_fields(alloc, row, places)?)?;
-    }
-    Ok(records)
-}
-
-/// The fields of a record of text at these places.
-fn picked_fields(
-    alloc: Global,
-    row: &ByteRecord,
-    places: &[usize],
-) -> Result<Vec<String>, AllocError>
-    requires { AllText (fields_of row.now) }
-    ensures { IfOk result (λ fields. map string_bytes fields.items ≡ map (λ place. slice_index_or (map stripped (fields_of row.now)) place []) places.now) }
-{
-    let mut fields = Vec::new(alloc);
-    for place in places {
-        fields.push(picked_field(alloc, row, *place)?)?;
-    }
-    Ok(fields)
-}
-
-/// The field of a record of text at a place.
-fn picked_field(alloc: Global, row: &ByteRecord, place: usize) -> Result<String, AllocError>
-    requires { AllText (fields_of row.now) }
-    ensures { IfOk result (λ field. string_bytes field ≡ slice_index_or (map stripped (fields_of row.now)) place []) }
-{
-    match str::from_utf8(stripped_field(row, place)) {
-        Ok(field) => field.to_string(alloc),
-        Err(_) => unreachable!(),
-    }
 }

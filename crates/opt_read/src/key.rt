@@ -1,6 +1,9 @@
 ghost use Rattle.std.specs.Prelude.{◌≡◌};
 ghost use Rattle.opt_read.specs.Keys.{key_name, key_number};
 
+use opt_base::File;
+use opt_model::column_name;
+
 /// The keys of the settings, in the order in which they are read.
 #[derive(Clone, Copy)]
 pub(crate) enum Key {
@@ -22,17 +25,10 @@ impl Key {
     }
 
     /// The key as it stands in the file.
+    #[tactic(auto, unfolding(crate::specs::Keys::key_name))]
     pub(crate) fn name(self) -> &'static str
         ensures { result.now ≡ key_name self }
     {
-        match self {
-            Key::Format => "format",
-            Key::Months => "months",
-            Key::Days => "days",
-            Key::Goal => "goal",
-            Key::Gap => "gap",
-            Key::Nodes => "nodes",
-            Key::Budget => "budget",
-        }
+        column_name(File::Settings, self.number())
     }
 }

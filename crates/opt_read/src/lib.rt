@@ -7,7 +7,7 @@ mod csv_table;
 mod key;
 mod limits;
 mod reading;
-mod records;
+mod rows;
 mod setup;
 mod toml_settings;
 

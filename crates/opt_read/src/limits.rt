@@ -1,12 +1,10 @@
 //! What the settings may say.
 
-/// The last format of a folder that is read; the first is 1.
-pub const LAST_FORMAT: u64 = 1;
 /// The greatest number of months; the least is 1.
-pub const MAX_MONTHS: u64 = 1;
+pub const MAX_MONTHS: u64 = 36;
 /// The greatest number of days in a month.
 pub const MAX_DAYS: u64 = 31;
 /// The greatest gap and budget, in mills or, for a gap, in units of weighted shortfall.
 pub const MAX_AMOUNT: u64 = 9_000_000_000_000_000_000;
 /// The greatest number of nodes of the search; the least is 1.
-pub const MAX_NODES: u64 = 2;
+pub const MAX_NODES: u64 = 1_000_000;

@@ -9,6 +9,13 @@ use std::test::Fail;
 const PLAIN: &str =
     "format = 1\nmonths = 1\ndays = [30]\ngoal = \"shortfall\"\ngap = 300\nnodes = 1\n";
 
+/// The settings of 36 months, from the days on.
+const YEARS: &str = "months = 36\ndays = [
+31, 28, 31, 30, 31, 30, 31, 31, 30, 31, 30, 31,
+31, 29, 31, 30, 31, 30, 31, 31, 30, 31, 30, 31,
+31, 28, 31, 30, 31, 30, 31, 31, 30, 31, 30, 0,
+]\ngoal = \"cost\"\ngap = 9_000_000_000_000_000_000\nnodes = 1_000_000\n";
+
 fn refused(file: File, number: u32, column: u8, kind: Kind) -> Option<ModelFault> {
     Some(ModelFault::Refused(Refusal {
         file,
@@ -155,13 +162,42 @@ fn reads_settings(rt: HostRuntime) -> Result<(), Fail> {
 fn reads_settings_at_their_ends(rt: HostRuntime) -> Result<(), Fail> {
     // A mark, another order and further keys.
     let text =
-        "\u{feff}budget = 9_000_000_000_000_000_000\nnodes = 2\ngap = 0\ngoal = 'shortfall'\ndays = [\n0, # none\n]\nmonths = 1\nformat = 1\nnote = \"x\"\n[more]\ngap = 1\n";
+        "\u{feff}budget = 9_000_000_000_000_000_000\nnodes = 1\ngap = 0\ngoal = 'shortfall'\ndays = [\n0, # none\n]\nmonths = 1\nformat = 1\nnote = \"x\"\n[more]\ngap = 1\n";
     let setup = settings(rt.alloc(), text.as_bytes())?;
     assert!(rt; setup.months() == 1);
     assert!(rt; setup.days(1) == 0);
     assert!(rt; setup.gap() == 0);
-    assert!(rt; setup.nodes() == 2);
+    assert!(rt; setup.nodes() == 1);
     assert!(rt; setup.budget() == Some(9_000_000_000_000_000_000));
+    Ok(())
+}
+
+#[test]
+fn reads_settings_of_36_months(rt: HostRuntime) -> Result<(), Fail> {
+    let alloc = rt.alloc();
+    for (format, text) in [
+        (1, "format = 1\n"),
+        (2, "format = 2\n"),
+        (3, "format = 3\n"),
+    ] {
+        let text = format!(in alloc; "{text}{YEARS}budget = 0\n")?;
+        let setup = settings(alloc, text.as_bytes())?;
+        assert!(rt; setup.format() == format);
+        assert!(rt; setup.months() == 36);
+        assert!(rt; setup.goal() == Goal::Cost);
+        assert!(rt; setup.gap() == 9_000_000_000_000_000_000);
+        assert!(rt; setup.nodes() == 1_000_000);
+        assert!(rt; setup.budget() == Some(0));
+        // 31 + 28 + 31 + 30 + 31 + 30 + 31 + 31 + 30 + 31 + 30 + 31 days are 365, so 365 + 366 + 365 - 31.
+        let mut sum = 0u64;
+        for month in 1..=setup.months() {
+            sum = sum.saturating_add(setup.days(month) as u64);
+        }
+        assert!(rt; sum == 1065);
+        assert!(rt; setup.days(2) == 28);
+        assert!(rt; setup.days(14) == 29);
+        assert!(rt; setup.days(36) == 0);
+    }
     Ok(())
 }
 
@@ -170,7 +206,7 @@ fn refuses_files_of_settings(rt: HostRuntime) -> Result<(), Fail> {
     let alloc = rt.alloc();
     let bytes = settings(alloc, b"format = 1 # \xff\n").err();
     assert!(rt; bytes == refused(File::Settings, 0, 0, Kind::NotUtf8));
-    // Two marks, an array that is not closed, a key twice, an integer past 64 bits.
+    // Two marks, an array that is not closed, a key twice, an integer past 64 bits on either side.
     assert!(rt; refuses_settings(alloc, "\u{feff}\u{feff}", PLAIN, 0, Kind::TomlRefused)?);
     assert!(rt; refuses_settings(alloc, "days = [30\n", "", 0, Kind::TomlRefused)?);
     assert!(rt; refuses_settings(alloc, PLAIN, "gap = 300\n", 0, Kind::TomlRefused)?);
@@ -179,6 +215,15 @@ fn refuses_files_of_settings(rt: HostRuntime) -> Result<(), Fail> {
             alloc,
             "gap = 9223372036854775808\n",
             "",
+            0,
+            Kind::TomlRefused
+        )?
+    );
+    assert!(rt;
+        refuses_settings(
+            alloc,
+            PLAIN,
+            "budget = -9223372036854775809\n",
             0,
             Kind::TomlRefused
         )?
@@ -192,18 +237,35 @@ fn refuses_keys(rt: HostRuntime) -> Result<(), Fail> {
     let range = Kind::SettingRange;
     let missing = Kind::SettingMissing;
     assert!(rt; refuses_settings(alloc, "", "nodes = 0\n", 1, missing)?);
-    for wrong in ["0", "2", "-1", "1.0", "\"1\"", "[1]"] {
+    for wrong in ["0", "4", "-1", "1.0", "\"1\"", "[1]", "true"] {
         assert!(rt; refuses_settings(alloc, "format = ", wrong, 1, range)?);
     }
     let head = "format = 1\n";
     assert!(rt; refuses_settings(alloc, head, "", 2, missing)?);
-    for wrong in ["months = 0", "months = 2", "months = -1", "months = true"] {
+    for wrong in [
+        "months = 0",
+        "months = 37",
+        "months = -1",
+        "months = true",
+        "months = '1'",
+        "months = [1]",
+        "months = 9223372036854775807",
+    ] {
         assert!(rt; refuses_settings(alloc, head, wrong, 2, range)?);
     }
     let head = "format = 1\nmonths = 1\n";
     assert!(rt; refuses_settings(alloc, head, "", 3, missing)?);
     for wrong in ["30", "[]", "[30, 30]", "[-1]", "[32]", "['30']", "[[30]]"] {
         assert!(rt; refuses_settings(alloc, "format = 1\nmonths = 1\ndays = ", wrong, 3, range)?);
+    }
+    // One number of days too few, one too many, the last one wrong.
+    for wrong in [
+        "[30, 30]",
+        "[30, 30, 30, 30]",
+        "[30, 30, 32]",
+        "[30, 30, 1.5]",
+    ] {
+        assert!(rt; refuses_settings(alloc, "format = 3\nmonths = 3\ndays = ", wrong, 3, range)?);
     }
     Ok(())
 }
@@ -217,7 +279,8 @@ fn refuses_later_keys(rt: HostRuntime) -> Result<(), Fail> {
     assert!(rt; refuses_settings(alloc, head, "gap = 300\nnodes = 1\n", 4, missing)?);
     for wrong in [
         "goal = 1",
-        "goal = 'cost'",
+        "goal = 'Cost'",
+        "goal = 'costs'",
         "goal = 'Shortfall'",
         "goal = ''",
         "goal = ['shortfall']",
@@ -237,10 +300,15 @@ fn refuses_later_keys(rt: HostRuntime) -> Result<(), Fail> {
     let head =
         "format = 1\nmonths = 1\ndays = [31]\ngoal = 'shortfall'\ngap = 9000000000000000000\n";
     assert!(rt; refuses_settings(alloc, head, "", 6, missing)?);
-    for wrong in ["nodes = 0", "nodes = 3", "nodes = -1", "nodes = [1]"] {
+    for wrong in ["nodes = 0", "nodes = 1000001", "nodes = -1", "nodes = [1]"] {
         assert!(rt; refuses_settings(alloc, head, wrong, 6, range)?);
     }
-    for wrong in ["budget = -1", "budget = 9000000000000000001", "budget = ''"] {
+    for wrong in [
+        "budget = -1",
+        "budget = 9000000000000000001",
+        "budget = 0.0",
+        "budget = ''",
+    ] {
         assert!(rt; refuses_settings(alloc, PLAIN, wrong, 7, range)?);
     }
     Ok(())

@@ -1,19 +1,19 @@
 ghost use Rattle.std.specs.Prelude.{◌≡◌, ◌≤◌, IfOk, IfSome, map, option_map};
 ghost use Rattle.opt_base.specs.Answers.{Gives};
+ghost use Rattle.opt_base.specs.Refusals.{refusal_at};
 ghost use Rattle.opt_base.specs.declared.refusal.File.TheVariants.{Settings as SettingsFile};
 ghost use Rattle.opt_base.specs.declared.refusal.Kind.TheVariants.{SettingRange};
 ghost use Rattle.toml.specs.Data.{get_member};
 ghost use Rattle.toml.specs.View.{table_view, view};
 ghost use Rattle.opt_read.specs.Keys.{key_name, key_number};
-ghost use Rattle.opt_read.specs.Reading.{refused};
-ghost use Rattle.opt_read.specs.Settings.{all_there, amount_at, amount_of, budget_at, day_list, days_at, document_of, goal_at, goal_named, goal_of, in_range, natural_of, number_at, number_of, settings_of, setup_of, value_at};
+ghost use Rattle.opt_read.specs.Settings.{all_there, amount_setting, amount_value, budget_setting, day_list, days_setting, document_of, goal_setting, goal_named, goal_value, or_out_of_range, natural_of, number_setting, integer_between, settings_of, setup_of, required_value};
 
 use crate::key::Key;
-use crate::limits::{LAST_FORMAT, MAX_AMOUNT, MAX_DAYS, MAX_MONTHS, MAX_NODES};
-use crate::reading::{refusal, text};
+use crate::limits::{MAX_AMOUNT, MAX_DAYS, MAX_MONTHS, MAX_NODES};
+use crate::reading::text;
 use crate::setup::Setup;
-use opt_base::{File, Kind, ModelFault};
-use opt_model::Goal;
+use opt_base::{File, Kind, ModelFault, Refusal};
+use opt_model::{Goal, LAST_FORMAT};
 use std::alloc::Global;
 use toml::{Table, Value};
 
@@ -40,7 +40,7 @@ fn document(alloc: Global, text: &str) -> Result<Table, ModelFault>
             if error.is_memory() {
                 Err(ModelFault::OutOfMemory)
             } else {
-                Err(ModelFault::Refused(refusal(File::Settings, 0, 0, Kind::TomlRefused)))
+                Err(ModelFault::Refused(Refusal::of_file(File::Settings, Kind::TomlRefused)))
             }
         }
     }
@@ -50,13 +50,13 @@ fn document(alloc: Global, text: &str) -> Result<Table, ModelFault>
 fn setup(alloc: Global, table: &Table) -> Result<Setup, ModelFault>
     ensures { Gives (λ setup. setup) result (setup_of (table_view table.now)) }
 {
-    let format = number_at(table, Key::Format, 1, LAST_FORMAT)?;
-    let months = number_at(table, Key::Months, 1, MAX_MONTHS)?;
-    let days = days_at(alloc, table, months)?;
-    let goal = goal_at(table)?;
-    let gap = amount_at(table, Key::Gap)?;
-    let nodes = number_at(table, Key::Nodes, 1, MAX_NODES)?;
-    let budget = budget_at(table)?;
+    let format = number_setting(table, Key::Format, 1, LAST_FORMAT as u64)?;
+    let months = number_setting(table, Key::Months, 1, MAX_MONTHS)?;
+    let days = days_setting(alloc, table, months)?;
+    let goal = goal_setting(table)?;
+    let gap = amount_setting(table, Key::Gap)?;
+    let nodes = number_setting(table, Key::Nodes, 1, MAX_NODES)?;
+    let budget = budget_setting(table)?;
     Ok(Setup {
         format: format as u32,
         months: months as u32,
@@ -69,20 +69,20 @@ fn setup(alloc: Global, table: &Table) -> Result<Setup, ModelFault>
 }
 
 /// What stands at a key, if anything does.
-fn found<'a>(table: &'a Table, key: Key) -> Option<&'a Value>
+fn entry<'a>(table: &'a Table, key: Key) -> Option<&'a Value>
     ensures { option_map (λ value. view value.now) result ≡ get_member (key_name key) (table_view table.now) }
 {
     table.get(key.name())
 }
 
 /// What stands at a key that must be there.
-fn value_at<'a>(table: &'a Table, key: Key) -> Result<&'a Value, ModelFault>
-    ensures { Gives (λ value. view value.now) result (value_at (table_view table.now) key) }
+fn required_value<'a>(table: &'a Table, key: Key) -> Result<&'a Value, ModelFault>
+    ensures { Gives (λ value. view value.now) result (required_value (table_view table.now) key) }
 {
-    match found(table, key) {
+    match entry(table, key) {
         Some(value) => Ok(value),
         None => {
-            let refusal = refusal(File::Settings, 0, key.number(), Kind::SettingMissing);
+            let refusal = Refusal::at(File::Settings, 0, key.number(), Kind::SettingMissing);
             Err(ModelFault::Refused(refusal))
         }
     }
@@ -90,17 +90,17 @@ fn value_at<'a>(table: &'a Table, key: Key) -> Result<&'a Value, ModelFault>
 
 /// The refusal of a key's value.
 fn out_of_range(key: Key) -> ModelFault
-    ensures { result ≡ ModelFault.Refused (refused SettingsFile 0 (key_number key) SettingRange) }
+    ensures { result ≡ ModelFault.Refused (refusal_at SettingsFile 0 (key_number key) SettingRange) }
 {
-    ModelFault::Refused(refusal(File::Settings, 0, key.number(), Kind::SettingRange))
+    ModelFault::Refused(Refusal::at(File::Settings, 0, key.number(), Kind::SettingRange))
 }
 
 /// The integer at a key, from `low` to `high`.
-fn number_at(table: &Table, key: Key, low: u64, high: u64) -> Result<u64, ModelFault>
-    ensures gives { Gives (λ number. number) result (number_at (table_view table.now) key low high) }
+fn number_setting(table: &Table, key: Key, low: u64, high: u64) -> Result<u64, ModelFault>
+    ensures gives { Gives (λ number. number) result (number_setting (table_view table.now) key low high) }
     ensures bound { IfOk result (λ number. (low ≤ number) × (number ≤ high)) }
 {
-    let value = value_at(table, key)?;
+    let value = required_value(table, key)?;
     match number(value, low, high) {
         Some(number) => Ok(number),
         None => Err(out_of_range(key)),
@@ -108,10 +108,10 @@ fn number_at(table: &Table, key: Key, low: u64, high: u64) -> Result<u64, ModelF
 }
 
 /// The days of each month.
-fn days_at(alloc: Global, table: &Table, months: u64) -> Result<Vec<u32>, ModelFault>
-    ensures { Gives (λ days. days.items) result (days_at (table_view table.now) months) }
+fn days_setting(alloc: Global, table: &Table, months: u64) -> Result<Vec<u32>, ModelFault>
+    ensures { Gives (λ days. days.items) result (days_setting (table_view table.now) months) }
 {
-    let value = value_at(table, Key::Days)?;
+    let value = required_value(table, Key::Days)?;
     match value.as_array() {
         Some(values) => days(alloc, values, months),
         None => Err(out_of_range(Key::Days)),
@@ -120,7 +120,7 @@ fn days_at(alloc: Global, table: &Table, months: u64) -> Result<Vec<u32>, ModelF
 
 /// The days of each month that an array holds.
 fn days(alloc: Global, values: &[Value], months: u64) -> Result<Vec<u32>, ModelFault>
-    ensures { Gives (λ days. days.items) result (in_range Key.Days (day_list months (map view values.now))) }
+    ensures { Gives (λ days. days.items) result (or_out_of_range Key.Days (day_list months (map view values.now))) }
 {
     if values.len() as u64 == months {
         all_days(alloc, values)
@@ -131,7 +131,7 @@ fn days(alloc: Global, values: &[Value], months: u64) -> Result<Vec<u32>, ModelF
 
 /// Each of these integers, from 0 to the greatest number of days.
 fn all_days(alloc: Global, values: &[Value]) -> Result<Vec<u32>, ModelFault>
-    ensures { Gives (λ days. days.items) result (in_range Key.Days (all_there (map (λ value. number_of 0 MAX_DAYS (view value)) values.now))) }
+    ensures { Gives (λ days. days.items) result (or_out_of_range Key.Days (all_there (map (λ value. integer_between 0 MAX_DAYS (view value)) values.now))) }
 {
     let mut days = Vec::new(alloc);
     for value in values {
@@ -144,10 +144,10 @@ fn all_days(alloc: Global, values: &[Value]) -> Result<Vec<u32>, ModelFault>
 }
 
 /// What the objective is.
-fn goal_at(table: &Table) -> Result<Goal, ModelFault>
-    ensures { Gives (λ goal. goal) result (goal_at (table_view table.now)) }
+fn goal_setting(table: &Table) -> Result<Goal, ModelFault>
+    ensures { Gives (λ goal. goal) result (goal_setting (table_view table.now)) }
 {
-    let value = value_at(table, Key::Goal)?;
+    let value = required_value(table, Key::Goal)?;
     match goal(value) {
         Some(goal) => Ok(goal),
         None => Err(out_of_range(Key::Goal)),
@@ -155,10 +155,10 @@ fn goal_at(table: &Table) -> Result<Goal, ModelFault>
 }
 
 /// The amount at a key, in mills or in units of weighted shortfall.
-fn amount_at(table: &Table, key: Key) -> Result<i64, ModelFault>
-    ensures { Gives (λ amount. amount) result (amount_at (table_view table.now) key) }
+fn amount_setting(table: &Table, key: Key) -> Result<i64, ModelFault>
+    ensures { Gives (λ amount. amount) result (amount_setting (table_view table.now) key) }
 {
-    let value = value_at(table, key)?;
+    let value = required_value(table, key)?;
     match amount(value) {
         Some(amount) => Ok(amount),
         None => Err(out_of_range(key)),
@@ -166,10 +166,10 @@ fn amount_at(table: &Table, key: Key) -> Result<i64, ModelFault>
 }
 
 /// The budget, in mills, where there is one.
-fn budget_at(table: &Table) -> Result<Option<i64>, ModelFault>
-    ensures { Gives (λ budget. budget) result (budget_at (table_view table.now)) }
+fn budget_setting(table: &Table) -> Result<Option<i64>, ModelFault>
+    ensures { Gives (λ budget. budget) result (budget_setting (table_view table.now)) }
 {
-    match found(table, Key::Budget) {
+    match entry(table, Key::Budget) {
         Some(value) => match amount(value) {
             Some(amount) => Ok(Some(amount)),
             None => Err(out_of_range(Key::Budget)),
@@ -180,7 +180,7 @@ fn budget_at(table: &Table) -> Result<Option<i64>, ModelFault>
 
 /// The integer that a value is, from `low` to `high`.
 fn number(value: &Value, low: u64, high: u64) -> Option<u64>
-    ensures value { result ≡ number_of low high (view value.now) }
+    ensures value { result ≡ integer_between low high (view value.now) }
     ensures bound { IfSome result (λ number. (low ≤ number) × (number ≤ high)) }
 {
     let number = natural(value.as_integer()?)?;
@@ -200,7 +200,7 @@ fn natural(number: i64) -> Option<u64>
 
 /// The amount that a value is.
 fn amount(value: &Value) -> Option<i64>
-    ensures { result ≡ amount_of (view value.now) }
+    ensures { result ≡ amount_value (view value.now) }
 {
     match number(value, 0, MAX_AMOUNT) {
         Some(amount) => Some(amount as i64),
@@ -210,7 +210,7 @@ fn amount(value: &Value) -> Option<i64>
 
 /// What the objective is by a value.
 fn goal(value: &Value) -> Option<Goal>
-    ensures { result ≡ goal_of (view value.now) }
+    ensures { result ≡ goal_value (view value.now) }
 {
     match value.as_str() {
         Some(word) => goal_named(word),
@@ -222,7 +222,9 @@ fn goal(value: &Value) -> Option<Goal>
 fn goal_named(word: &str) -> Option<Goal>
     ensures { result ≡ goal_named word.now }
 {
-    if word == "shortfall" {
+    if word == "cost" {
+        Some(Goal::Cost)
+    } else if word == "shortfall" {
         Some(Goal::Shortfall)
     } else {
         None

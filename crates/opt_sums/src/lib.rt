@@ -27,10 +27,5 @@ pub fn is_rising(entries: &[(u32, i64)]) -> bool
 pub fn has_no_zero(entries: &[(u32, i64)]) -> bool
     ensures { IsTrue result ↔ HasNoZero entries.now }
 {
-    for entry in entries {
-        if entry.1 == 0 {
-            return false;
-        }
-    }
-    true
+    entries.iter().all(|entry| entry.1 != 0)
 }

@@ -1,16 +1,18 @@
 -- What the columns of rows hold: the coefficients of the rows, by the rows' numbers, and each term once.
-use Rattle.std.proofs.Common.{◌≡◌, ◌≢◌, inl, inr, ℕ, zero, suc, ◌+◌, ◌-◌, ◌≤◌, ◌<◌, ◌==◌, List, [], ◌∷◌, length, map, filter, ℤ, pos, true, false, cond, All, refl, ap, sym, ◌∙◌, arith}
+use Rattle.std.proofs.Common.{◌≡◌, ◌≢◌, ◌⊎◌, inl, inr, ℕ, zero, suc, ◌+◌, ◌-◌, ◌≤◌, ◌<◌, ◌==◌, List, [], ◌∷◌, length, map, filter, ℤ, pos, true, false, cond, All, refl, ap, sym, ◌∙◌, subst, arith}
 use Rattle.std.proofs.lemmas.Int.{ints}
 use Rattle.std.proofs.Math.ListN.{length-append}
 use Rattle.std.proofs.lemmas.Bool.Decides.{nat_tests}
-use Rattle.std.proofs.lemmas.List.Elements.{All-nil, All-cons, All-head, All-tail, All-append}
+use Rattle.std.proofs.lemmas.List.Elements.{All-nil, All-cons, All-head, All-tail, All-append, All-weaker}
 use Rattle.std.proofs.lemmas.List.Sums.{sum_by-cons}
-use Rattle.opt_sums.specs.Entries.{coef}
+use Rattle.opt_sums.specs.Sums.{at}
+use Rattle.opt_sums.specs.Entries.{coef, IsRising, HasNoZero}
 use Rattle.opt_sums.proofs.SumLemmas.{total_to, total_to-add, total_to-same, total_to-one, total_to-constant}
 use Rattle.opt_sums.proofs.EntryLemmas.{same_or_other, one_same, one_other, coef-append}
+use Rattle.opt_sums.proofs.RisingLemmas.{IsRising-head, IsRising-tail, IsRising-nil, IsRising-cons}
 use Rattle.opt_system.specs.declared.rows.Row.{Row}
-use Rattle.opt_system.specs.Rows.{column_from, column_of, terms_at}
-use Rattle.opt_system.specs.Problem.{row_at, term_count}
+use Rattle.opt_system.specs.Rows.{IsEven, column_from, column_of, terms_at}
+use Rattle.opt_system.specs.Systems.{System, IsLimited, IsSmallBy, IsSmallColumnTerm, row_at, term_count}
 
 -- ---- the terms of a row that name a quantity
 terms_at-same : (i : ℕ) (e : ℕ × ℤ) (es : List (ℕ × ℤ)) (j : ℕ) → e.0 ≡ j → terms_at i (e ∷ es) j ≡ (i, e.1) ∷ terms_at i es j
@@ -97,6 +99,63 @@ All-column_from P n s (row ∷ rows) j h all =
 -- what holds of each term of the rows, by its quantity and coefficient, holds of the entries of a column, and these name rows
 pub All-column_of : (P : ℕ → ℤ → Type 0) (rows : List Row) (j : ℕ) → All (λ row. All (λ e. P e.0 e.1) row.terms) rows → All (λ e. (e.0 < length rows) × P j e.1) (column_of rows j)
 All-column_of P rows j all = All-column_from P (length rows) 0 rows j (omega arith) all
+
+-- ---- a column rises and has no 0
+terms_at-none : (i : ℕ) (es : List (ℕ × ℤ)) (j : ℕ) → All (λ e. j < e.0) es → terms_at i es j ≡ []
+terms_at-none i [] j above = refl
+terms_at-none i (e ∷ es) j above =
+    let past : j < e.0 = All-head (λ d. j < d.0) e es above in
+    terms_at-other i e es j (omega arith) ∙ terms_at-none i es j (All-tail (λ d. j < d.0) e es above)
+
+-- a row whose terms rise has at most one that names the quantity
+terms_at-one : (i : ℕ) (es : List (ℕ × ℤ)) (j : ℕ) → IsRising es → (terms_at i es j ≡ []) ⊎ ((a : ℤ) × (terms_at i es j ≡ (i, a) ∷ []))
+terms_at-one i [] j rising = inl refl
+terms_at-one i (e ∷ es) j rising =
+    elim (same_or_other e.0 j) [
+      | inl same ↦
+          let p : e.0 ≡ j = same in
+          let above : All (λ d. j < d.0) es = rw (sym p) (IsRising-head e es rising) in
+          inr (e.1, terms_at-same i e es j p ∙ ap (λ ds. (i, e.1) ∷ ds) (terms_at-none i es j above))
+      | inr other ↦
+          let p : e.0 ≢ j = other in
+          let P : List (ℕ × ℤ) → Type 0 = λ ts. (ts ≡ []) ⊎ ((a : ℤ) × (ts ≡ (i, a) ∷ [])) in
+          subst P (sym (terms_at-other i e es j p)) (terms_at-one i es j (IsRising-tail e es rising))
+    ]
+
+column_from-above : (s : ℕ) (rows : List Row) (j : ℕ) → All (λ e. s ≤ e.0) (column_from s rows j)
+column_from-above s [] j = All-nil (λ e. s ≤ e.0)
+column_from-above s (row ∷ rows) j =
+    All-append (λ e. s ≤ e.0) (terms_at s row.terms j) (column_from (s + 1) rows j)
+    (All-weaker (λ e. (s ≤ e.0) × Unit {0}) (λ e. s ≤ e.0) (λ e h. h.0) (terms_at s row.terms j) (All-terms_at (λ _ _. Unit {0}) (λ i. s ≤ i) s row.terms j (omega arith) (λ _ _ _. tt)))
+    (All-weaker (λ e. s + 1 ≤ e.0) (λ e. s ≤ e.0) (λ e h. omega arith) (column_from (s + 1) rows j) (column_from-above (s + 1) rows j))
+
+IsRising-column_from : (s : ℕ) (rows : List Row) (j : ℕ) → All (λ row. IsRising row.terms) rows → IsRising (column_from s rows j)
+IsRising-column_from s [] j rising = IsRising-nil
+IsRising-column_from s (row ∷ rows) j rising =
+    let rest : IsRising (column_from (s + 1) rows j) = IsRising-column_from (s + 1) rows j (All-tail (λ r. IsRising r.terms) row rows rising) in
+    elim (terms_at-one s row.terms j (All-head (λ r. IsRising r.terms) row rows rising)) [
+      | inl none ↦ rw none rest
+      | inr one ↦
+          rw one.1
+          (IsRising-cons (s, one.0) (column_from (s + 1) rows j)
+          (All-weaker (λ e. s + 1 ≤ e.0) (λ e. s < e.0) (λ e h. omega arith) (column_from (s + 1) rows j) (column_from-above (s + 1) rows j)) rest)
+    ]
+
+-- a column goes by rising row
+pub IsRising-column_of : (rows : List Row) (j : ℕ) → All IsEven rows → IsRising (column_of rows j)
+IsRising-column_of rows j even =
+    IsRising-column_from 0 rows j (All-weaker IsEven (λ row. IsRising row.terms) (λ row e. e.rising) rows even)
+
+-- and has no coefficient 0
+pub HasNoZero-column_of : (rows : List Row) (j : ℕ) → All IsEven rows → HasNoZero (column_of rows j)
+HasNoZero-column_of rows j even =
+    All-weaker (λ e. (e.0 < length rows) × (e.1 ≢ pos 0)) (λ e. e.1 ≢ pos 0) (λ e h. h.1) (column_of rows j)
+    (All-column_of (λ _ a. a ≢ pos 0) rows j (All-weaker IsEven (λ row. HasNoZero row.terms) (λ row e. e.no_zero) rows even))
+
+-- the entries of a column name rows, and their coefficients are small for its quantity
+pub column_small : (p : System) (j : ℕ) → IsLimited p → All (IsSmallColumnTerm p j) (column_of p.rows j)
+column_small p j limited =
+    All-column_of (λ k a. IsSmallBy a (at p.root.high k)) p.rows j (λ k d h l e g. (limited.small.terms k d h l e g).1)
 
 -- ---- how many entries the columns have
 total-terms_at : (n i : ℕ) (es : List (ℕ × ℤ)) → total_to n (λ j. length (terms_at i es j)) ≤ length es

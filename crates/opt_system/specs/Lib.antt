@@ -1,5 +1,8 @@
-pub mod Bounds
+pub mod Ranges
+pub mod Cuts
 pub mod Rows
+pub mod Broken
 pub mod Columns
-pub mod Problem
+pub mod Systems
 pub mod Stored
+pub mod Equal

@@ -10,14 +10,14 @@ pub record IsEven (row : Row) : Type 0 where
   pub rising : IsRising row.terms
   pub no_zero : HasNoZero row.terms
 
--- a left side stands to a right side as the kind says
+-- a left side stands to a right-hand side as the kind says
 abbrev pub Stands : RowKind → ℤ → ℤ → Type 0
 Stands Ge left right = right ≤ℤ left
 Stands Eq left right = left ≡ right
 
 -- the point x meets the row
 abbrev pub Holds : Row → List ℤ → Type 0
-Holds row x = Stands row.kind (dot row.terms x) row.right
+Holds row x = Stands row.kind (dot row.terms x) row.right_hand_side
 
 -- the terms of row i that name quantity j, by the row's number
 abbrev pub terms_at : ℕ → List (ℕ × ℤ) → ℕ → List (ℕ × ℤ)

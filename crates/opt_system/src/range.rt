@@ -1,4 +1,4 @@
-ghost use Rattle.std.specs.Prelude.{◌≡◌, ◌↔◌, ℕ, ◌<◌, ◌≤ℤ◌, length, IsTrue, IfOk};
+ghost use Rattle.std.specs.Prelude.{◌≡◌, ◌↔◌, ℕ, ◌<◌, pos, ◌≤ℤ◌, length, slice_set, IsTrue, IfOk};
 ghost use Rattle.opt_sums.specs.Sums.{at};
 
 use opt_base::OutOfMemory;
@@ -13,9 +13,9 @@ pub struct Range {
 }
 
 impl Model for Range {
-    ghost use Rattle.opt_system.specs.Bounds.{Bounds, IsOrdered};
+    ghost use Rattle.opt_system.specs.Ranges.{Range, IsOrdered};
 
-    ghost Value = { Bounds };
+    ghost Value = { Range };
 
     ghost view = { λ r. record { low = r.low.items; high = r.high.items } };
 
@@ -23,7 +23,7 @@ impl Model for Range {
 }
 
 impl Range {
-    ghost use Rattle.opt_system.specs.Bounds.{Bounds, IsOrdered, IsWithin, LiesIn};
+    ghost use Rattle.opt_system.specs.Ranges.{Range, IsOrdered, IsWithin, LiesIn};
 
     /// The range of these lows and highs: as many of each, and `0 <= low <= high` throughout.
     pub fn new(alloc: Global, low: &[i64], high: &[i64]) -> Result<Range, OutOfMemory>
@@ -33,6 +33,14 @@ impl Range {
         let low = Vec::from_slice(alloc, low)?;
         let high = Vec::from_slice(alloc, high)?;
         Ok(Range { low, high })
+    }
+
+    /// The range of these lows and highs, which it keeps: as many of each, and `0 <= low <= high` throughout.
+    pub fn from_vecs(low: Vec<i64>, high: Vec<i64>) -> Range
+        requires { IsOrdered (record { low = low.items; high = high.items }) }
+        ensures { result ≡ record { low = low.items; high = high.items } }
+    {
+        Range { low, high }
     }
 
     /// Whether there are as many of each, and `0 <= low <= high` throughout.
@@ -94,8 +102,27 @@ impl Range {
         &self.high
     }
 
+    /// Puts another least value for quantity `j`, from 0 to its greatest one.
+    pub fn set_low(&mut self, j: u32, value: i64)
+        requires quantity { j < length self.old.low }
+        requires from_zero { pos 0 ≤ℤ value }
+        requires to_high { value ≤ℤ at self.old.high j }
+        ensures { self.new ≡ record self.old { low = slice_set self.old.low j value } }
+    {
+        self.low[j as usize] = value;
+    }
+
+    /// Puts another greatest value for quantity `j`, of at least its least one.
+    pub fn set_high(&mut self, j: u32, value: i64)
+        requires quantity { j < length self.old.low }
+        requires from_low { at self.old.low j ≤ℤ value }
+        ensures { self.new ≡ record self.old { high = slice_set self.old.high j value } }
+    {
+        self.high[j as usize] = value;
+    }
+
     /// A copy of the range.
-    pub(crate) fn copied(&self, alloc: Global) -> Result<Range, OutOfMemory>
+    pub fn copy(&self, alloc: Global) -> Result<Range, OutOfMemory>
         ensures copy { IfOk result (λ range. range ≡ self.now) }
         ensures ordered { IsOrdered self.now }
     {
@@ -103,10 +130,26 @@ impl Range {
     }
 }
 
+impl PartialEq for Range {
+    ghost use Rattle.opt_system.specs.Equal.{range_eq, range_eq_laws};
+
+    ghost eq = { range_eq };
+
+    ghost laws = { range_eq_laws };
+
+    fn eq(&self, other: &Range) -> bool
+        ensures value { result ≡ range_eq self.now other.now }
+        ensures same { IsTrue result ↔ (self.now ≡ other.now) }
+    {
+        self.low == other.low && self.high == other.high
+    }
+}
+
 /// Whether no number of the first list is above that of the second at the same place.
 fn at_most(first: &[i64], second: &[i64]) -> bool
     requires { length first.now ≡ length second.now }
-    ensures { IsTrue result ↔ ((j : ℕ) → j < length first.now → at first.now j ≤ℤ at second.now j) }
+    ensures { IsTrue result
+        ↔ ((j : ℕ) → j < length first.now → at first.now j ≤ℤ at second.now j) }
 {
     for j in 0..first.len() {
         if first[j] > second[j] {

@@ -6,35 +6,60 @@ use opt_base::OutOfMemory;
 use std::alloc::{AllocError, Global};
 use std::marker::Model;
 
-/// How the sum of a row's terms stands to its right side.
+/// How the sum of a row's terms stands to its right-hand side.
 #[derive(Clone, Copy, Debug, PartialEq, Eq)]
 pub enum RowKind {
-    /// The sum is at least the right side.
+    /// The sum is at least the right-hand side.
     Ge,
-    /// The sum is the right side.
+    /// The sum is the right-hand side.
     Eq,
 }
 
-/// A row: the sum of its terms stands to its right side as its kind says.
+/// A row: the sum of its terms stands to its right-hand side as its kind says.
 #[derive(Debug, Drop)]
 pub struct Row {
     pub kind: RowKind,
-    pub right: i64,
+    pub right_hand_side: i64,
     pub terms: Terms,
 }
 
 impl Row {
     /// A copy of the row.
-    pub fn copied(&self, alloc: Global) -> Result<Row, AllocError>
+    pub fn copy(&self, alloc: Global) -> Result<Row, AllocError>
         ensures { IfOk result (λ row. row ≡ self.now) }
     {
         let terms = Terms::from_slice(alloc, self.terms.as_slice())?;
         Ok(Row {
             kind: self.kind,
-            right: self.right,
+            right_hand_side: self.right_hand_side,
             terms,
         })
     }
+}
+
+impl PartialEq for Row {
+    ghost use Rattle.opt_system.specs.Equal.{row_eq, row_eq_laws};
+
+    ghost eq = { row_eq };
+
+    ghost laws = { row_eq_laws };
+
+    fn eq(&self, other: &Row) -> bool {
+        self.kind == other.kind
+            && self.right_hand_side == other.right_hand_side
+            && self.terms == other.terms
+    }
+}
+
+/// Copies of these rows.
+pub fn copy_rows(alloc: Global, rows: &[Row]) -> Result<Vec<Row>, AllocError>
+    ensures { IfOk result (λ copies. copies.items ≡ rows.now) }
+{
+    let mut copies = Vec::with_capacity(alloc, rows.len())?;
+    for row in rows {
+        copies.push(row.copy(alloc)?)?;
+    }
+    Ok(copies)
 }
 
 /// Rows, in the order in which they were pushed.
@@ -78,11 +103,16 @@ impl RowList {
     ) -> Result<(), OutOfMemory>
         requires rising { IsRising terms.now }
         requires no_zero { HasNoZero terms.now }
-        ensures ok { OnOk result (self.new ≡ self.old ++ record { kind = kind; right = right; terms = terms.now } ∷ []) }
+        ensures ok { OnOk result (self.new
+            ≡ self.old ++ record { kind = kind; right_hand_side = right; terms = terms.now } ∷ []) }
         ensures err { OnErr result (self.new ≡ self.old) }
     {
         let terms = Terms::from_slice(self.alloc, terms)?;
-        self.rows.push(Row { kind, right, terms })?;
+        self.rows.push(Row {
+            kind,
+            right_hand_side: right,
+            terms,
+        })?;
         Ok(())
     }
 

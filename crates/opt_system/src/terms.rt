@@ -50,3 +50,15 @@ impl Terms {
         &self.items
     }
 }
+
+impl PartialEq for Terms {
+    ghost use Rattle.opt_system.specs.Equal.{entries_eq, entries_eq_laws};
+
+    ghost eq = { entries_eq };
+
+    ghost laws = { entries_eq_laws };
+
+    fn eq(&self, other: &Terms) -> bool {
+        self.items == other.items
+    }
+}

@@ -87,6 +87,8 @@ fn a_kilogram_too_little_breaks_two_rows(rt: HostRuntime) -> Result<(), Fail> {
     assert_eq!(rt; rice.row_sum(3, &x), 0);
     assert_eq!(rt; rice.row_sum(4, &x), 1);
     assert_eq!(rt; rice.row_sum(5, &x), -17_700);
+    assert!(rt; rice.holds(0, &x));
+    assert!(rt; !rice.holds(4, &x));
     assert_eq!(rt; rice.first_broken(&x), Some(1));
     assert_eq!(rt; rice.objective(&x), 8_850_000);
     Ok(())
@@ -109,7 +111,7 @@ fn rows_and_columns_are_read(rt: HostRuntime) -> Result<(), Fail> {
     assert!(rt; rice.quantities() == 5);
     assert_eq!(rt; rice.kind(2), RowKind::Ge);
     assert_eq!(rt; rice.kind(3), RowKind::Eq);
-    assert_eq!(rt; rice.right(2), -999);
+    assert_eq!(rt; rice.right_hand_side(2), -999);
     assert_eq!(rt; rice.cost(3), 50);
     assert_eq!(rt; rice.terms(1), [(0u32, -300_000i64), (4, 1000)].as_slice());
     assert_eq!(rt;
@@ -141,6 +143,65 @@ fn a_narrowed_system_keeps_rows_and_costs(rt: HostRuntime) -> Result<(), Fail> {
     assert_eq!(rt; narrow.root().low(), [59i64, 0, 0, 0, 0].as_slice());
     assert_eq!(rt; narrow.first_broken(&x), None);
     assert_eq!(rt; narrow.objective(&x), 8_850_000);
+    Ok(())
+}
+
+/// Puts another least value, or ends the test where it is none.
+fn set_low(rt: &impl Abort, range: &mut Range, j: u32, value: i64) {
+    let inside = (j as usize) < range.low().len() && (j as usize) < range.high().len();
+    assert!(rt; inside);
+    let fits = value >= 0 && value <= range.high()[j as usize];
+    assert!(rt; fits);
+    range.set_low(j, value);
+}
+
+/// Puts another greatest value, or ends the test where it is none.
+fn set_high(rt: &impl Abort, range: &mut Range, j: u32, value: i64) {
+    let inside = (j as usize) < range.low().len();
+    assert!(rt; inside);
+    let fits = value >= range.low()[j as usize];
+    assert!(rt; fits);
+    range.set_high(j, value);
+}
+
+#[test]
+fn ends_are_changed_one_at_a_time(rt: HostRuntime) -> Result<(), Fail> {
+    let alloc = rt.alloc();
+    let low = vec![in alloc; 0i64; 2]?;
+    let high = vec![in alloc; 9i64; 2]?;
+    let ordered = Range::is_ordered(&low, &high);
+    assert!(rt; ordered);
+    let whole = Range::from_vecs(low, high);
+    let mut part = whole.copy(alloc)?;
+    assert!(rt; part == whole);
+    set_high(&rt, &mut part, 1, 4);
+    set_low(&rt, &mut part, 0, 3);
+    assert_eq!(rt; part.low(), [3i64, 0].as_slice());
+    assert_eq!(rt; part.high(), [9i64, 4].as_slice());
+    assert!(rt; part != whole);
+    Ok(())
+}
+
+#[test]
+fn a_copy_is_the_same_system(rt: HostRuntime) -> Result<(), Fail> {
+    let alloc = rt.alloc();
+    let rice = rice(&rt, alloc)?;
+    let again = rice.copy(alloc)?;
+    assert!(rt; again == rice);
+    assert_eq!(rt; again.costs(), [0i64, 0, 450, 50, 0].as_slice());
+    assert!(rt; again.quantities() == 5);
+    assert_eq!(rt;
+        again.column(3),
+        [(3u32, -1i64), (4, 1), (5, -1)].as_slice()
+    );
+    let root = range(
+        &rt,
+        alloc,
+        &[59, 0, 0, 0, 0],
+        &[60, 0, 20_000, 20_000, 18_000],
+    )?;
+    assert!(rt; root.lies_in(rice.root()));
+    assert!(rt; rice.narrowed(alloc, &root)? != rice);
     Ok(())
 }
 

@@ -1,4 +1,15 @@
+pub mod Cells
+pub mod Counts
+pub mod DemandFacts
+pub mod DietFacts
 pub mod Equality
 pub mod Folders
+pub mod GotFiles
 pub mod Lists
+pub mod MonthFacts
+pub mod NetworkFacts
+pub mod ReadModel
+pub mod ReadTables
 pub mod Sizes
+pub mod Spots
+pub mod TableFacts

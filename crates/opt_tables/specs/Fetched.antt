@@ -1,10 +1,12 @@
 -- What is got of a folder.
-use Rattle.std.specs.Prelude.{◌≡◌, ℕ, List, Option, Result, Ok, Err}
+use Rattle.std.specs.Prelude.{◌≡◌, ◌⊎◌, ℕ, true, List, [], ◌∷◌, Contains, Option, Result, Ok, Err}
 use Rattle.opt_base.specs.declared.refusal.File.{File}
 use Rattle.opt_base.specs.declared.refusal.Refusal.{Refusal}
 use Rattle.opt_base.specs.Answers.{◌>>=◌, each}
 use Rattle.opt_base.specs.Outside.{Files}
-use Rattle.opt_tables.specs.Files.{ModelFiles, no_files, model_files, with_file, admitted, path_of}
+use Rattle.opt_base.specs.Refusals.{refusal_of_file}
+use Rattle.opt_base.specs.declared.refusal.Kind.TheVariants.{MissingFile, FileTooBig}
+use Rattle.opt_tables.specs.Files.{ModelFiles, no_files, model_files, with_file, is_required, admitted, path_of}
 use Rattle.opt_tables.specs.declared.fault.FetchFault.{FetchFault}
 use Rattle.opt_tables.specs.declared.fault.FetchFault.TheVariants.{Refused, Outside, OutOfMemory}
 
@@ -30,3 +32,18 @@ IsGot view (Err OutOfMemory) read = Unit {0}
 -- the files of a folder, or the first refusal, unless memory ran out or the outside failed
 abbrev pub Fetched : Result ModelFiles FetchFault → Result ModelFiles Refusal → Type 0
 Fetched result read = IsGot (λ files. files) result read
+
+-- these files were got one after the other, and each was admitted
+abbrev pub GetsEach : List File → ModelFiles → ModelFiles → Type 0
+GetsEach [] old new = old ≡ new
+GetsEach (file ∷ order) old new = (bytes : Option (List ℕ)) × (admitted file bytes ≡ Ok bytes) × GetsEach order (with_file old file bytes) new
+
+-- a file is refused as a whole: it has too many bytes, or must be there and is not
+abbrev pub IsOfFile : File → Refusal → Type 0
+IsOfFile file refusal = (refusal ≡ refusal_of_file file FileTooBig) ⊎ ((is_required file ≡ true) × (refusal ≡ refusal_of_file file MissingFile))
+
+-- what is refused is one of these files as a whole
+abbrev pub RefusesOne : List File → FetchFault → Type 0
+RefusesOne order (Refused refusal) = (file : File) × Contains order file × IsOfFile file refusal
+RefusesOne order Outside = Unit {0}
+RefusesOne order OutOfMemory = Unit {0}

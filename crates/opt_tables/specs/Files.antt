@@ -2,9 +2,9 @@
 use Rattle.std.specs.Prelude.{ℕ, Bool, true, false, List, [], ◌∷◌, ◌++◌, length, nat_le, unwrap_or, Option, Some, None, Result, Ok, Err, if◌then◌else◌}
 use Rattle.opt_base.specs.declared.refusal.File.{File}
 use Rattle.opt_base.specs.declared.refusal.File.TheVariants.{Settings, Commodities, Groups, Nutrients, Contents, Places, Offers, Arcs, Persons, Stock, Baskets, Needs, Model, Plan, Certificate, Edits, Executed}
-use Rattle.opt_base.specs.declared.refusal.Kind.{Kind}
 use Rattle.opt_base.specs.declared.refusal.Kind.TheVariants.{MissingFile, FileTooBig}
 use Rattle.opt_base.specs.declared.refusal.Refusal.{Refusal}
+use Rattle.opt_base.specs.Refusals.{refusal_of_file}
 use Rattle.opt_base.specs.Answers.{◌>>=◌, each}
 use Rattle.opt_base.specs.Outside.{Files as Held}
 use Rattle.opt_model.specs.Texts.{file_name}
@@ -90,14 +90,10 @@ abbrev pub limit_of : File → ℕ
 limit_of Settings = 65536
 limit_of _ = 16777216
 
--- the refusal of a file as a whole
-abbrev pub refused_file : File → Kind → Refusal
-refused_file file kind = record { file = file; number = 0; column = 0; kind = kind }
-
 -- what a file holds, which is refused where it must be there and is not, or has too many bytes
 abbrev pub admitted : File → Option (List ℕ) → Result (Option (List ℕ)) Refusal
-admitted file None = if is_required file then Err (refused_file file MissingFile) else Ok None
-admitted file (Some bytes) = if nat_le (length bytes) (limit_of file) then Ok (Some bytes) else Err (refused_file file FileTooBig)
+admitted file None = if is_required file then Err (refusal_of_file file MissingFile) else Ok None
+admitted file (Some bytes) = if nat_le (length bytes) (limit_of file) then Ok (Some bytes) else Err (refusal_of_file file FileTooBig)
 
 -- the first refusal of a file as a whole
 abbrev pub checked : File → Option (List ℕ) → Result (Unit {0}) Refusal

@@ -1,4 +1,7 @@
+pub mod Amounts
+pub mod Demand
 pub mod Diet
+pub mod Facts
 pub mod Fetched
 pub mod Files
 pub mod Grids

@@ -6,7 +6,7 @@ use Rattle.opt_base.specs.declared.refusal.Kind.TheVariants.{Duplicate}
 use Rattle.opt_base.specs.declared.refusal.Refusal.{Refusal}
 use Rattle.opt_base.specs.Answers.{◌>>=◌, each}
 use Rattle.opt_tables.specs.Keys.{Known, Name, are_same}
-use Rattle.opt_tables.specs.Records.{Record, row_of, refused_at, text_at}
+use Rattle.opt_tables.specs.Records.{Record, row_of, refused_at, text_in}
 
 -- a table's file and the fields of its records; what the records so far are known by, and what else they say
 pub record Lines (L : Type 0) : Type 0 where
@@ -41,7 +41,7 @@ lines_in line_of key_of file grid = grid >>= lines_of line_of key_of file
 
 -- a record is known by the name in its first column
 abbrev pub name_key : {L : Type 0} → Record → L → Known
-name_key row line = Name (text_at row 1)
+name_key row line = Name (text_in row 1)
 
 -- the records so far and that of one more line, where each is made of a record's fields and its line
 abbrev pub with_linked : {L R : Type 0} → (Record → L → Result R Refusal) → Lines L → ℕ → L → List R → Result (List R) Refusal

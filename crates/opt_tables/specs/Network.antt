@@ -1,10 +1,11 @@
 -- What the records of the tables of the network say: places, offers, arcs, persons, stock.
-use Rattle.std.specs.Prelude.{ℕ, ◌==◌, ◌||◌, Bool, true, false, pos, List, slice_get, Result, Ok, Err, if◌then◌else◌, option_map}
+use Rattle.std.specs.Prelude.{ℕ, ◌==◌, ◌||◌, Bool, true, false, pos, List, [], slice_get, Result, Ok, Err, if◌then◌else◌, option_map}
 use Rattle.std.specs.Option.{option_map_or}
 use Rattle.opt_base.specs.declared.refusal.File.TheVariants.{Places, Offers, Arcs, Persons, Stock}
 use Rattle.opt_base.specs.declared.refusal.Kind.TheVariants.{WrongPlaceKind}
 use Rattle.opt_base.specs.declared.refusal.Refusal.{Refusal}
 use Rattle.opt_base.specs.Answers.{◌>>=◌}
+use Rattle.opt_model.specs.Settings.{Settings, has_baskets, has_lots}
 use Rattle.opt_model.specs.declared.records.PlaceKind.{PlaceKind}
 use Rattle.opt_model.specs.declared.records.PlaceKind.TheVariants.{Supplier, Port, Hub, Point}
 use Rattle.opt_model.specs.declared.records.Place.{Place}
@@ -13,84 +14,101 @@ use Rattle.opt_model.specs.declared.records.Arc.{Arc}
 use Rattle.opt_model.specs.declared.records.Persons.{Persons as PersonsRecord}
 use Rattle.opt_model.specs.declared.records.Stock.{Stock as StockRecord}
 use Rattle.opt_tables.specs.Keys.{Known, NameInMonth, NamesInMonth}
-use Rattle.opt_tables.specs.Records.{Record, refused_at, text_at, name_at, number_at, optional_number_at, kind_at, reference_at}
+use Rattle.opt_tables.specs.Records.{Record, refused_at, text_in, name_in, number_in, optional_number_in, kind_in, reference_in}
 use Rattle.opt_tables.specs.Lines.{Lines, lines_in, name_key}
 use Rattle.opt_tables.specs.declared.places.PlaceLine.{PlaceLine}
 use Rattle.opt_tables.specs.declared.offers.OfferLine.{OfferLine}
+use Rattle.opt_tables.specs.declared.offers.Lot.{Lot}
+use Rattle.opt_tables.specs.declared.offers.TheConstants.{FEE_LIMIT}
 use Rattle.opt_tables.specs.declared.arcs.ArcLine.{ArcLine}
 use Rattle.opt_tables.specs.declared.persons.PersonsLine.{PersonsLine}
 use Rattle.opt_tables.specs.declared.stock.StockLine.{StockLine}
 use Rattle.opt_tables.specs.declared.diet.Diet.{Diet}
+use Rattle.opt_tables.specs.declared.demand.Demand.{Demand}
 use Rattle.opt_tables.specs.declared.network.NetworkGrids.{NetworkGrids}
 use Rattle.opt_tables.specs.declared.network.Network.{Network}
 
 -- a place's kind and numbers; where the throughput is empty there is no limit
 abbrev pub place_line_of : Record → Result PlaceLine Refusal
 place_line_of row = do
-  name ← name_at row 1
-  kind ← kind_at row 2
-  storage ← number_at row 3 0 1000000000
-  throughput ← optional_number_at row 4 0 1000000000
-  handling ← number_at row 5 0 1000000
-  storage_cost ← number_at row 6 0 1000000
+  name ← name_in row 1
+  kind ← kind_in row 2
+  storage ← number_in row 3 0 1000000000
+  throughput ← optional_number_in row 4 0 1000000000
+  handling ← number_in row 5 0 1000000
+  storage_cost ← number_in row 6 0 1000000
   Ok (record { kind = kind; storage = storage; throughput = throughput; handling = handling; storage_cost = storage_cost })
 
+-- an offer's fee and least lot, which are 0 in a format without them
+abbrev pub lot_in : Settings → Record → Result Lot Refusal
+lot_in settings row =
+    if has_lots settings.format
+    then (number_in row 8 0 FEE_LIMIT >>= λ fee. number_in row 9 0 1000000000 >>= λ least. Ok (record { fee = pos fee; least = least }))
+    else Ok (record { fee = pos 0; least = 0 })
+
 -- an offer's numbers
-abbrev pub offer_line_of : Record → Result OfferLine Refusal
-offer_line_of row = do
-  name ← name_at row 1
-  place ← name_at row 2
-  commodity ← name_at row 3
-  price ← number_at row 4 0 1000000
-  max_kg ← number_at row 5 0 1000000000
-  first ← number_at row 6 1 36
-  last ← number_at row 7 1 36
-  Ok (record { price = price; max_kg = max_kg; first = first; last = last })
+abbrev pub offer_line_of : Settings → Record → Result OfferLine Refusal
+offer_line_of settings row = do
+  name ← name_in row 1
+  place ← name_in row 2
+  commodity ← name_in row 3
+  price ← number_in row 4 0 1000000
+  max_kg ← number_in row 5 0 1000000000
+  first ← number_in row 6 1 36
+  last ← number_in row 7 1 36
+  lot ← lot_in settings row
+  Ok (record { price = price; max_kg = max_kg; first = first; last = last; lot = lot })
 
 -- an arc's numbers
 abbrev pub arc_line_of : Record → Result ArcLine Refusal
 arc_line_of row = do
-  name ← name_at row 1
-  start ← name_at row 2
-  end ← name_at row 3
-  cost ← number_at row 4 0 1000000
-  capacity ← number_at row 5 0 1000000000
-  lead ← number_at row 6 0 12
+  name ← name_in row 1
+  start ← name_in row 2
+  end ← name_in row 3
+  cost ← number_in row 4 0 1000000
+  capacity ← number_in row 5 0 1000000000
+  lead ← number_in row 6 0 12
   Ok (record { cost = cost; capacity = capacity; lead = lead })
 
--- the numbers of a record of persons, in a plan of so many months
-abbrev pub persons_line_of : ℕ → Record → Result PersonsLine Refusal
-persons_line_of months row = do
-  place ← name_at row 1
-  month ← number_at row 2 1 months
-  persons ← number_at row 3 0 10000000
+-- the name of a basket in the column of baskets, where a format has one
+abbrev pub basket_name_in : Settings → Record → Result (List ℕ) Refusal
+basket_name_in settings row = if has_baskets settings.format then name_in row 4 else Ok []
+
+-- the numbers of a record of persons
+abbrev pub persons_line_of : Settings → Record → Result PersonsLine Refusal
+persons_line_of settings row = do
+  place ← name_in row 1
+  month ← number_in row 2 1 settings.months
+  persons ← number_in row 3 0 10000000
+  basket ← basket_name_in settings row
   Ok (record { month = month; persons = persons })
 
--- a record of persons is known by its place and its month
-abbrev pub persons_key : Record → PersonsLine → Known
-persons_key row line = NameInMonth (text_at row 1) line.month
+-- a record of persons is known by its place and its month, and by its basket where a format has more than one
+abbrev pub persons_key : Settings → Record → PersonsLine → Known
+persons_key settings row line =
+    if has_baskets settings.format then NamesInMonth (text_in row 1) (text_in row 4) line.month else NameInMonth (text_in row 1) line.month
 
--- the numbers of a record of stock, in a plan of so many months
-abbrev pub stock_line_of : ℕ → Record → Result StockLine Refusal
-stock_line_of months row = do
-  place ← name_at row 1
-  commodity ← name_at row 2
-  month ← number_at row 3 1 months
-  kg ← number_at row 4 0 1000000000
+-- the numbers of a record of stock
+abbrev pub stock_line_of : Settings → Record → Result StockLine Refusal
+stock_line_of settings row = do
+  place ← name_in row 1
+  commodity ← name_in row 2
+  month ← number_in row 3 1 settings.months
+  kg ← number_in row 4 0 1000000000
   Ok (record { month = month; kg = kg })
 
 -- a record of stock is known by its place, its commodity and its month
 abbrev pub stock_key : Record → StockLine → Known
-stock_key row line = NamesInMonth (text_at row 1) (text_at row 2) line.month
+stock_key row line = NamesInMonth (text_in row 1) (text_in row 2) line.month
 
--- what the tables of the network say, in a plan of so many months, or their first refusal
-unfoldable pub network_of : ℕ → NetworkGrids → Result Network Refusal
-network_of months grids = do
+-- what the tables of the network say, or their first refusal
+unfoldable pub network_of : Settings → NetworkGrids → Result Network Refusal
+network_of settings grids = do
   places ← lines_in place_line_of name_key Places grids.places
-  offers ← lines_in offer_line_of name_key Offers grids.offers
+  offers ← lines_in (offer_line_of settings) name_key Offers grids.offers
   arcs ← lines_in arc_line_of name_key Arcs grids.arcs
-  persons ← lines_in (persons_line_of months) persons_key Persons grids.persons
-  stock ← lines_in (stock_line_of months) stock_key Stock grids.stock
+  persons ← lines_in (persons_line_of settings) (persons_key settings) Persons grids.persons
+  stock ← lines_in (stock_line_of settings) stock_key Stock grids.stock
   Ok (record { places = places; offers = offers; arcs = arcs; persons = persons; stock = stock })
 
 -- the records of the network
@@ -114,45 +132,50 @@ abbrev pub has_kind : PlaceKind → Lines PlaceLine → ℕ → Bool
 has_kind kind places place = option_map_or (λ (line : PlaceLine). are_same_kind line.kind kind) (slice_get places.lines place) false
 
 -- the number of the place that a column names, which must be of this kind
-abbrev pub place_of_kind_at : PlaceKind → Record → ℕ → Lines PlaceLine → Result ℕ Refusal
-place_of_kind_at kind row column places =
-    reference_at row column places.keys >>= λ place.
+abbrev pub place_of_kind_in : PlaceKind → Record → ℕ → Lines PlaceLine → Result ℕ Refusal
+place_of_kind_in kind row column places =
+    reference_in row column places.keys >>= λ place.
     if has_kind kind places place then Ok place else Err (refused_at row column WrongPlaceKind)
 
 -- the number of the place that a column names, where an arc from this place may end: no supplier, and not where it starts
-abbrev pub end_at : Record → ℕ → Lines PlaceLine → ℕ → Result ℕ Refusal
-end_at row column places start =
-    reference_at row column places.keys >>= λ place.
+abbrev pub end_in : Record → ℕ → Lines PlaceLine → ℕ → Result ℕ Refusal
+end_in row column places start =
+    reference_in row column places.keys >>= λ place.
     if has_kind Supplier places place || (place == start) then Err (refused_at row column WrongPlaceKind) else Ok place
 
 -- a place
 abbrev pub place_of : Record → PlaceLine → Result Place Refusal
 place_of row line =
-    Ok (record { place = text_at row 1; kind = line.kind; storage = pos line.storage; throughput = option_map pos line.throughput; handling = pos line.handling; storage_cost = pos line.storage_cost })
+    Ok (record { place = text_in row 1; kind = line.kind; storage = pos line.storage; throughput = option_map pos line.throughput; handling = pos line.handling; storage_cost = pos line.storage_cost })
 
 -- an offer, which stands at a supplier
 abbrev pub offer_of : Diet → Network → Record → OfferLine → Result Offer Refusal
 offer_of diet network row line = do
-  place ← place_of_kind_at Supplier row 2 network.places
-  commodity ← reference_at row 3 diet.commodities.keys
-  Ok (record { offer = text_at row 1; place = place; commodity = commodity; price = pos line.price; max_kg = pos line.max_kg; first = line.first; last = line.last; fee = pos 0; least = pos 0 })
+  place ← place_of_kind_in Supplier row 2 network.places
+  commodity ← reference_in row 3 diet.commodities.keys
+  Ok (record { offer = text_in row 1; place = place; commodity = commodity; price = pos line.price; max_kg = pos line.max_kg; first = line.first; last = line.last; fee = line.lot.fee; least = pos line.lot.least })
 
 -- an arc, which ends at another place that is no supplier
 abbrev pub arc_of : Network → Record → ArcLine → Result Arc Refusal
 arc_of network row line = do
-  start ← reference_at row 2 network.places.keys
-  end ← end_at row 3 network.places start
-  Ok (record { arc = text_at row 1; from_place = start; to_place = end; cost = pos line.cost; capacity = pos line.capacity; lead = line.lead })
+  start ← reference_in row 2 network.places.keys
+  end ← end_in row 3 network.places start
+  Ok (record { arc = text_in row 1; from_place = start; to_place = end; cost = pos line.cost; capacity = pos line.capacity; lead = line.lead })
 
--- the persons of the first basket whom a point feeds in a month
-abbrev pub persons_of : Network → Record → PersonsLine → Result PersonsRecord Refusal
-persons_of network row line =
-    place_of_kind_at Point row 1 network.places >>= λ place.
-    Ok (record { place = place; month = line.month; persons = pos line.persons; basket = 0 })
+-- the number of the basket that the column of baskets names, or of the one basket
+abbrev pub basket_in : Settings → Record → Demand → Result ℕ Refusal
+basket_in settings row demand = if has_baskets settings.format then reference_in row 4 demand.baskets.keys else Ok 0
+
+-- the persons of a basket whom a point feeds in a month
+abbrev pub persons_of : Settings → Network → Demand → Record → PersonsLine → Result PersonsRecord Refusal
+persons_of settings network demand row line = do
+  place ← place_of_kind_in Point row 1 network.places
+  basket ← basket_in settings row demand
+  Ok (record { place = place; month = line.month; persons = pos line.persons; basket = basket })
 
 -- food that is at a place from a month's start on
 abbrev pub stock_of : Diet → Network → Record → StockLine → Result StockRecord Refusal
 stock_of diet network row line = do
-  place ← reference_at row 1 network.places.keys
-  commodity ← reference_at row 2 diet.commodities.keys
+  place ← reference_in row 1 network.places.keys
+  commodity ← reference_in row 2 diet.commodities.keys
   Ok (record { place = place; commodity = commodity; month = line.month; kg = pos line.kg })

@@ -8,6 +8,7 @@ use Rattle.opt_base.specs.declared.refusal.File.{File}
 use Rattle.opt_base.specs.declared.refusal.Kind.{Kind}
 use Rattle.opt_base.specs.declared.refusal.Kind.TheVariants.{EmptyName, NameTooLong, BadNumber, OutOfRange, UnknownName}
 use Rattle.opt_base.specs.declared.refusal.Refusal.{Refusal}
+use Rattle.opt_base.specs.Refusals.{refusal_at}
 use Rattle.opt_base.specs.Answers.{◌>>=◌}
 use Rattle.opt_model.specs.declared.records.PlaceKind.{PlaceKind}
 use Rattle.opt_model.specs.declared.records.PlaceKind.TheVariants as kind
@@ -26,40 +27,40 @@ row_of file rows number = record { file = file; number = number; fields = record
 
 -- the refusal of a record for what stands in a column, numbered from 1, or for the record as a whole, 0
 abbrev pub refused_at : Record → ℕ → Kind → Refusal
-refused_at row column kind = record { file = row.file; number = row.number; column = column; kind = kind }
+refused_at row column kind = refusal_at row.file row.number column kind
 
 -- what stands in a column, numbered from 1
-abbrev pub text_at : Record → ℕ → List ℕ
-text_at row column = slice_index_or row.fields (column - 1) []
+abbrev pub text_in : Record → ℕ → List ℕ
+text_in row column = slice_index_or row.fields (column - 1) []
 
 -- a name that may be missing, of at most 64 bytes
-abbrev pub optional_name_at : Record → ℕ → Result (List ℕ) Refusal
-optional_name_at row column =
-    if nat_lt 64 (length (text_at row column)) then Err (refused_at row column NameTooLong) else Ok (text_at row column)
+abbrev pub optional_name_in : Record → ℕ → Result (List ℕ) Refusal
+optional_name_in row column =
+    if nat_lt 64 (length (text_in row column)) then Err (refused_at row column NameTooLong) else Ok (text_in row column)
 
 -- a name, of 1 to 64 bytes
-abbrev pub name_at : Record → ℕ → Result (List ℕ) Refusal
-name_at row column =
-    if length (text_at row column) == 0 then Err (refused_at row column EmptyName) else optional_name_at row column
+abbrev pub name_in : Record → ℕ → Result (List ℕ) Refusal
+name_in row column =
+    if length (text_in row column) == 0 then Err (refused_at row column EmptyName) else optional_name_in row column
 
 -- whether a text is one or more digits
 abbrev pub is_number : List ℕ → Bool
 is_number text = not (length text == 0) && list_all is_ascii_digit text
 
 -- a number from low to high
-abbrev pub number_at : Record → ℕ → ℕ → ℕ → Result ℕ Refusal
-number_at row column low high =
-    if is_number (text_at row column)
+abbrev pub number_in : Record → ℕ → ℕ → ℕ → Result ℕ Refusal
+number_in row column low high =
+    if is_number (text_in row column)
     then
-    if nat_le low (digits_value 10 (text_at row column)) && nat_le (digits_value 10 (text_at row column)) high
-    then Ok (digits_value 10 (text_at row column))
+    if nat_le low (digits_value 10 (text_in row column)) && nat_le (digits_value 10 (text_in row column)) high
+    then Ok (digits_value 10 (text_in row column))
     else Err (refused_at row column OutOfRange)
     else Err (refused_at row column BadNumber)
 
 -- the same of a column that may be empty
-abbrev pub optional_number_at : Record → ℕ → ℕ → ℕ → Result (Option ℕ) Refusal
-optional_number_at row column low high =
-    if length (text_at row column) == 0 then Ok None else number_at row column low high >>= λ number. Ok (Some number)
+abbrev pub optional_number_in : Record → ℕ → ℕ → ℕ → Result (Option ℕ) Refusal
+optional_number_in row column low high =
+    if length (text_in row column) == 0 then Ok None else number_in row column low high >>= λ number. Ok (Some number)
 
 -- the kind of place that a word names
 abbrev pub kind_named : List ℕ → Option PlaceKind
@@ -70,14 +71,14 @@ kind_named word =
     else (if bytes_eq word (codes "point") then Some kind.Point else None)))
 
 -- the kind of place that a column names
-abbrev pub kind_at : Record → ℕ → Result PlaceKind Refusal
-kind_at row column = ok_or (kind_named (text_at row column)) (refused_at row column UnknownName)
+abbrev pub kind_in : Record → ℕ → Result PlaceKind Refusal
+kind_in row column = ok_or (kind_named (text_in row column)) (refused_at row column UnknownName)
 
 -- the number of the record that a column names, from 0, among those that are known by their names
-abbrev pub reference_at : Record → ℕ → List Known → Result ℕ Refusal
-reference_at row column keys = ok_or (position (are_same (Name (text_at row column))) keys) (refused_at row column UnknownName)
+abbrev pub reference_in : Record → ℕ → List Known → Result ℕ Refusal
+reference_in row column keys = ok_or (position (are_same (Name (text_in row column))) keys) (refused_at row column UnknownName)
 
 -- the same of a column that may be empty
-abbrev pub optional_reference_at : Record → ℕ → List Known → Result (Option ℕ) Refusal
-optional_reference_at row column keys =
-    if length (text_at row column) == 0 then Ok None else reference_at row column keys >>= λ number. Ok (Some number)
+abbrev pub optional_reference_in : Record → ℕ → List Known → Result (Option ℕ) Refusal
+optional_reference_in row column keys =
+    if length (text_in row column) == 0 then Ok None else reference_in row column keys >>= λ number. Ok (Some number)

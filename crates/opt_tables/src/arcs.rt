@@ -4,6 +4,7 @@ use crate::link::{Link, TableLines};
 use crate::row::Row;
 use opt_base::{ModelFault, Refusal};
 use opt_model::{Arc, Name};
+use opt_read::Setup;
 use std::alloc::Global;
 
 /// What a record of arcs.csv says but for its names.
@@ -21,11 +22,11 @@ impl Line for ArcLine {
     ghost use Rattle.opt_tables.specs.Lines.{name_key};
     ghost use Rattle.opt_tables.specs.Network.{arc_line_of};
 
-    ghost line_of = { λ months. arc_line_of };
+    ghost line_of = { λ settings. arc_line_of };
 
-    ghost key_of = { name_key };
+    ghost key_of = { λ settings. name_key };
 
-    fn read(row: &Row<'_>, _months: u32) -> Result<ArcLine, Refusal> {
+    fn read(row: &Row<'_>, _setup: &Setup) -> Result<ArcLine, Refusal> {
         row.name(1)?;
         row.name(2)?;
         row.name(3)?;
@@ -36,7 +37,7 @@ impl Line for ArcLine {
         })
     }
 
-    fn key<'a>(&self, row: &Row<'a>) -> Key<'a> {
+    fn key<'a>(&self, row: &Row<'a>, _setup: &Setup) -> Key<'a> {
         Key::Name(row.text(1))
     }
 }
@@ -44,12 +45,13 @@ impl Line for ArcLine {
 impl Link<Arc> for ArcLine {
     ghost use Rattle.opt_tables.specs.Network.{arc_of};
 
-    ghost record_of = { λ tables. arc_of tables.network };
+    ghost record_of = { λ settings tables. arc_of tables.network };
 
     fn link(
         &self,
         alloc: Global,
         row: &Row<'_>,
+        _setup: &Setup,
         tables: &TableLines<'_>,
     ) -> Result<Arc, ModelFault> {
         let places = &tables.network.places;

@@ -1,14 +1,13 @@
 ghost use Rattle.opt_base.specs.Answers.{Gives};
 ghost use Rattle.opt_tables.specs.Diet.{commodity_lines_in};
 
-use crate::files::refused_file;
 use crate::key::Key;
 use crate::lines::{Line, Lines};
 use crate::link::{Link, TableLines};
 use crate::row::Row;
 use opt_base::{File, Kind, ModelFault, Refusal};
 use opt_model::{Commodity, Name};
-use opt_read::Cells;
+use opt_read::{Cells, Setup};
 use std::alloc::Global;
 
 /// What a record of commodities.csv says but for its names.
@@ -26,11 +25,11 @@ impl Line for CommodityLine {
     ghost use Rattle.opt_tables.specs.Lines.{name_key};
     ghost use Rattle.opt_tables.specs.Diet.{commodity_line_of};
 
-    ghost line_of = { λ months. commodity_line_of };
+    ghost line_of = { λ settings. commodity_line_of };
 
-    ghost key_of = { name_key };
+    ghost key_of = { λ settings. name_key };
 
-    fn read(row: &Row<'_>, _months: u32) -> Result<CommodityLine, Refusal> {
+    fn read(row: &Row<'_>, _setup: &Setup) -> Result<CommodityLine, Refusal> {
         row.name(1)?;
         row.optional_name(2)?;
         let min_g = row.number(3, 0, 2000)?;
@@ -46,7 +45,7 @@ impl Line for CommodityLine {
         })
     }
 
-    fn key<'a>(&self, row: &Row<'a>) -> Key<'a> {
+    fn key<'a>(&self, row: &Row<'a>, _setup: &Setup) -> Key<'a> {
         Key::Name(row.text(1))
     }
 }
@@ -54,12 +53,13 @@ impl Line for CommodityLine {
 impl Link<Commodity> for CommodityLine {
     ghost use Rattle.opt_tables.specs.Diet.{commodity_of};
 
-    ghost record_of = { λ tables. commodity_of tables.diet };
+    ghost record_of = { λ settings tables. commodity_of tables.diet };
 
     fn link(
         &self,
         alloc: Global,
         row: &Row<'_>,
+        _setup: &Setup,
         tables: &TableLines<'_>,
     ) -> Result<Commodity, ModelFault> {
         let group = row.optional_reference(2, tables.diet.groups.keys())?;
@@ -76,14 +76,14 @@ impl Link<Commodity> for CommodityLine {
 /// The lines of commodities.csv, which must have a record.
 pub fn commodity_lines<'a>(
     alloc: Global,
-    months: u32,
+    setup: &Setup,
     grid: &'a Result<Cells, Refusal>,
 ) -> Result<Lines<'a, CommodityLine>, ModelFault>
     ensures { Gives (λ lines. lines) result (commodity_lines_in grid.now) }
 {
-    let lines = Lines::read(alloc, File::Commodities, months, grid)?;
+    let lines = Lines::read(alloc, File::Commodities, setup, grid)?;
     if lines.is_empty() {
-        return Err(ModelFault::Refused(refused_file(File::Commodities, Kind::EmptyTable)));
+        return Err(ModelFault::Refused(Refusal::of_file(File::Commodities, Kind::EmptyTable)));
     }
     Ok(lines)
 }

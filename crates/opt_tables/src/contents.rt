@@ -4,6 +4,7 @@ use crate::link::{Link, TableLines};
 use crate::row::Row;
 use opt_base::{ModelFault, Refusal};
 use opt_model::Content;
+use opt_read::Setup;
 use std::alloc::Global;
 
 /// What a record of contents.csv says but for its names.
@@ -16,11 +17,11 @@ pub struct ContentLine {
 impl Line for ContentLine {
     ghost use Rattle.opt_tables.specs.Diet.{content_line_of, content_key};
 
-    ghost line_of = { λ months. content_line_of };
+    ghost line_of = { λ settings. content_line_of };
 
-    ghost key_of = { content_key };
+    ghost key_of = { λ settings. content_key };
 
-    fn read(row: &Row<'_>, _months: u32) -> Result<ContentLine, Refusal> {
+    fn read(row: &Row<'_>, _setup: &Setup) -> Result<ContentLine, Refusal> {
         row.name(1)?;
         row.name(2)?;
         Ok(ContentLine {
@@ -28,7 +29,7 @@ impl Line for ContentLine {
         })
     }
 
-    fn key<'a>(&self, row: &Row<'a>) -> Key<'a> {
+    fn key<'a>(&self, row: &Row<'a>, _setup: &Setup) -> Key<'a> {
         Key::Names(row.text(1), row.text(2))
     }
 }
@@ -36,12 +37,13 @@ impl Line for ContentLine {
 impl Link<Content> for ContentLine {
     ghost use Rattle.opt_tables.specs.Diet.{content_of};
 
-    ghost record_of = { λ tables. content_of tables.diet };
+    ghost record_of = { λ settings tables. content_of tables.diet };
 
     fn link(
         &self,
         _alloc: Global,
         row: &Row<'_>,
+        _setup: &Setup,
         tables: &TableLines<'_>,
     ) -> Result<Content, ModelFault> {
         Ok(Content {

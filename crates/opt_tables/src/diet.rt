@@ -13,10 +13,10 @@ use crate::grids::table;
 use crate::groups::GroupLine;
 use crate::lines::Lines;
 use crate::link::{TableLines, linked};
-use crate::nutrients::{NutrientLine, needs};
+use crate::nutrients::NutrientLine;
 use opt_base::{File, ModelFault, OutOfMemory, Refusal};
-use opt_model::{Commodity, Content, Group, Need, Nutrient};
-use opt_read::Cells;
+use opt_model::{Commodity, Content, Group, Nutrient};
+use opt_read::{Cells, Setup};
 use std::alloc::Global;
 use std::marker::Model;
 
@@ -39,13 +39,12 @@ pub struct Diet<'a> {
 }
 
 /// The records of the diet.
-#[derive(Drop)]
+#[derive(Debug, Drop)]
 pub struct DietRecords {
     pub commodities: Vec<Commodity>,
     pub groups: Vec<Group>,
     pub nutrients: Vec<Nutrient>,
     pub contents: Vec<Content>,
-    pub needs: Vec<Need>,
 }
 
 impl Model for DietRecords {
@@ -53,35 +52,35 @@ impl Model for DietRecords {
 
     ghost Value = { DietTables };
 
-    ghost view = { λ records. record { commodities = records.commodities.items; groups = records.groups.items; nutrients = records.nutrients.items; contents = records.contents.items; needs = records.needs.items } };
+    ghost view = { λ records. record { commodities = records.commodities.items; groups = records.groups.items; nutrients = records.nutrients.items; contents = records.contents.items } };
 }
 
 impl DietGrids {
     /// Splits the tables of the diet.
-    pub fn read(alloc: Global, files: &Files) -> Result<DietGrids, OutOfMemory>
+    pub fn read(alloc: Global, files: &Files, format: u32) -> Result<DietGrids, OutOfMemory>
         requires { (file : File) → length (bytes_of files.now file) < 2 ^ 32 }
-        ensures { IfOk result (λ grids. grids ≡ diet_grids_of files.now) }
+        ensures { IfOk result (λ grids. grids ≡ diet_grids_of files.now format) }
     {
         Ok(DietGrids {
-            commodities: table(alloc, files, File::Commodities)?,
-            groups: table(alloc, files, File::Groups)?,
-            nutrients: table(alloc, files, File::Nutrients)?,
-            contents: table(alloc, files, File::Contents)?,
+            commodities: table(alloc, files, format, File::Commodities)?,
+            groups: table(alloc, files, format, File::Groups)?,
+            nutrients: table(alloc, files, format, File::Nutrients)?,
+            contents: table(alloc, files, format, File::Contents)?,
         })
     }
 }
 
 impl<'a> Diet<'a> {
-    /// What the tables of the diet say, in a plan of so many months, or their first refusal.
+    /// What the tables of the diet say, or their first refusal.
     #[tactic(auto, unfolding(crate::specs::Diet::diet_of))]
-    pub fn read(alloc: Global, grids: &'a DietGrids, months: u32) -> Result<Diet<'a>, ModelFault>
-        ensures { Gives (λ diet. diet) result (diet_of grids.now) }
+    pub fn read(alloc: Global, setup: &Setup, grids: &'a DietGrids) -> Result<Diet<'a>, ModelFault>
+        ensures { Gives (λ diet. diet) result (diet_of setup.now grids.now) }
     {
         Ok(Diet {
-            commodities: commodity_lines(alloc, months, &grids.commodities)?,
-            groups: Lines::read(alloc, File::Groups, months, &grids.groups)?,
-            nutrients: Lines::read(alloc, File::Nutrients, months, &grids.nutrients)?,
-            contents: Lines::read(alloc, File::Contents, months, &grids.contents)?,
+            commodities: commodity_lines(alloc, setup, &grids.commodities)?,
+            groups: Lines::read(alloc, File::Groups, setup, &grids.groups)?,
+            nutrients: Lines::read(alloc, File::Nutrients, setup, &grids.nutrients)?,
+            contents: Lines::read(alloc, File::Contents, setup, &grids.contents)?,
         })
     }
 }
@@ -89,16 +88,19 @@ impl<'a> Diet<'a> {
 impl DietRecords {
     /// The records of the diet, with the numbers of those that they name.
     #[tactic(auto, unfolding(crate::specs::Model::diet_records_of))]
-    pub fn link(alloc: Global, tables: &TableLines<'_>) -> Result<DietRecords, ModelFault>
+    pub fn link(
+        alloc: Global,
+        setup: &Setup,
+        tables: &TableLines<'_>,
+    ) -> Result<DietRecords, ModelFault>
         ensures { Gives (λ records. records) result (diet_records_of tables.now.diet) }
     {
         let diet = &tables.diet;
         Ok(DietRecords {
-            commodities: linked(alloc, &diet.commodities, tables)?,
-            groups: linked(alloc, &diet.groups, tables)?,
-            nutrients: linked(alloc, &diet.nutrients, tables)?,
-            contents: linked(alloc, &diet.contents, tables)?,
-            needs: needs(alloc, &diet.nutrients)?,
+            commodities: linked(alloc, &diet.commodities, setup, tables)?,
+            groups: linked(alloc, &diet.groups, setup, tables)?,
+            nutrients: linked(alloc, &diet.nutrients, setup, tables)?,
+            contents: linked(alloc, &diet.contents, setup, tables)?,
         })
     }
 }

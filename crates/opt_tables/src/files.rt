@@ -1,7 +1,7 @@
 ghost use Rattle.std.specs.Prelude.{◌≡◌, ◌^◌, ◌<◌, OnOk, length, option_copied};
 ghost use Rattle.opt_base.specs.declared.refusal.File.{File};
 ghost use Rattle.opt_base.specs.Answers.{each};
-ghost use Rattle.opt_tables.specs.Files.{no_files, file_of, with_file, bytes_of, is_required, limit_of, refused_file, checked, with_checked, all_checked, IsModelFile};
+ghost use Rattle.opt_tables.specs.Files.{no_files, file_of, with_file, bytes_of, is_required, limit_of, checked, with_checked, all_checked, IsModelFile};
 
 use opt_base::{Blob, File, Kind, Refusal};
 use std::marker::Model;
@@ -185,27 +185,15 @@ pub(crate) fn limit(file: File) -> u64
     }
 }
 
-/// The refusal of a file as a whole.
-pub(crate) fn refused_file(file: File, kind: Kind) -> Refusal
-    ensures { result ≡ refused_file file kind }
-{
-    Refusal {
-        file,
-        number: 0,
-        column: 0,
-        kind,
-    }
-}
-
 /// Refuses a file that must be there and is not, or has too many bytes.
 fn check_file(file: File, held: Option<&[u8]>) -> Result<(), Refusal>
     ensures { result ≡ checked file (option_copied held.entry) }
 {
     match held {
         Some(bytes) if bytes.len() as u64 > limit(file) => {
-            Err(refused_file(file, Kind::FileTooBig))
+            Err(Refusal::of_file(file, Kind::FileTooBig))
         }
-        None if is_required(file) => Err(refused_file(file, Kind::MissingFile)),
+        None if is_required(file) => Err(Refusal::of_file(file, Kind::MissingFile)),
         _ => Ok(()),
     }
 }

@@ -4,6 +4,7 @@ use crate::link::{Link, TableLines};
 use crate::row::Row;
 use opt_base::{ModelFault, Refusal};
 use opt_model::{Group, Name};
+use opt_read::Setup;
 use std::alloc::Global;
 
 /// What a record of groups.csv says but for its name.
@@ -19,11 +20,11 @@ impl Line for GroupLine {
     ghost use Rattle.opt_tables.specs.Lines.{name_key};
     ghost use Rattle.opt_tables.specs.Diet.{group_line_of};
 
-    ghost line_of = { λ months. group_line_of };
+    ghost line_of = { λ settings. group_line_of };
 
-    ghost key_of = { name_key };
+    ghost key_of = { λ settings. name_key };
 
-    fn read(row: &Row<'_>, _months: u32) -> Result<GroupLine, Refusal> {
+    fn read(row: &Row<'_>, _setup: &Setup) -> Result<GroupLine, Refusal> {
         row.name(1)?;
         Ok(GroupLine {
             min_g: row.number(2, 0, 1_000_000)?,
@@ -31,7 +32,7 @@ impl Line for GroupLine {
         })
     }
 
-    fn key<'a>(&self, row: &Row<'a>) -> Key<'a> {
+    fn key<'a>(&self, row: &Row<'a>, _setup: &Setup) -> Key<'a> {
         Key::Name(row.text(1))
     }
 }
@@ -39,12 +40,13 @@ impl Line for GroupLine {
 impl Link<Group> for GroupLine {
     ghost use Rattle.opt_tables.specs.Diet.{group_of};
 
-    ghost record_of = { λ tables. group_of };
+    ghost record_of = { λ settings tables. group_of };
 
     fn link(
         &self,
         alloc: Global,
         row: &Row<'_>,
+        _setup: &Setup,
         _tables: &TableLines<'_>,
     ) -> Result<Group, ModelFault> {
         Ok(Group {

@@ -1,9 +1,12 @@
 //! Reads the tables of a model: the files of a folder, and what they say or the first refusal.
 #![tactic(auto)]
 
+mod amounts;
 mod arcs;
+mod baskets;
 mod commodities;
 mod contents;
+mod demand;
 mod diet;
 mod fault;
 mod fetching;
@@ -14,6 +17,7 @@ mod key;
 mod keys;
 mod lines;
 mod link;
+mod needs;
 mod network;
 mod nutrients;
 mod offers;
@@ -29,6 +33,7 @@ mod tests;
 pub use fault::FetchFault;
 pub use fetching::fetch;
 pub use files::{Files, SETTINGS_LIMIT, TABLE_LIMIT};
+pub use offers::FEE_LIMIT;
 pub use opt_model::{
     Arc, Basket, Commodity, Content, Goal, Group, Name, Need, Nutrient, Offer, Persons, Place,
     PlaceKind, Stock,

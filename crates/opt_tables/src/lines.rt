@@ -7,30 +7,31 @@ use crate::key::Key;
 use crate::keys::Keys;
 use crate::row::Row;
 use opt_base::{File, Kind, ModelFault, Refusal};
-use opt_read::Cells;
+use opt_read::{Cells, Setup};
 use std::alloc::Global;
 use std::marker::Model;
 
 /// What a record says but for the records that it names.
 pub trait Line: Drop + Sized {
-    ghost use Rattle.std.specs.Prelude.{ℕ, Result};
+    ghost use Rattle.std.specs.Prelude.{Result};
     ghost use Rattle.opt_base.specs.declared.refusal.Refusal.{Refusal};
+    ghost use Rattle.opt_model.specs.Settings.{Settings};
     ghost use Rattle.opt_tables.specs.Keys.{Known, known_by};
     ghost use Rattle.opt_tables.specs.Records.{Record};
 
-    /// What a record says in a plan of so many months, or its first refusal.
-    ghost line_of: { ℕ → Record → Result Self Refusal };
+    /// What a record says under the settings, or its first refusal.
+    ghost line_of: { Settings → Record → Result Self Refusal };
 
-    /// What the record of a line is known by.
-    ghost key_of: { Record → Self → Known };
+    /// What the record of a line is known by under the settings.
+    ghost key_of: { Settings → Record → Self → Known };
 
-    /// What a record says in a plan of so many months, or its first refusal.
-    fn read(row: &Row<'_>, months: u32) -> Result<Self, Refusal>
-        ensures { result ≡ line_of months row.now };
+    /// What a record says under the settings, or its first refusal.
+    fn read(row: &Row<'_>, setup: &Setup) -> Result<Self, Refusal>
+        ensures { result ≡ line_of setup.now row.now };
 
     /// What the record is known by in its table.
-    fn key<'a>(&self, row: &Row<'a>) -> Key<'a>
-        ensures { known_by result ≡ key_of row.now self.now };
+    fn key<'a>(&self, row: &Row<'a>, setup: &Setup) -> Key<'a>
+        ensures { known_by result ≡ key_of setup.now row.now self.now };
 }
 
 /// The lines of a table in file order, and what its records are known by, each found in constant time.
@@ -73,6 +74,13 @@ impl<'a, L: Drop> Lines<'a, L> {
         self.lines.len() as u32
     }
 
+    /// How many records the table has.
+    pub fn rows(&self) -> u32
+        ensures { result ≡ length self.now.rows }
+    {
+        self.cells.len()
+    }
+
     /// Whether the table has no record.
     pub fn is_empty(&self) -> bool
         ensures { IsTrue result ↔ (self.now.rows ≡ []) }
@@ -112,45 +120,45 @@ impl<'a, L: Drop> Lines<'a, L> {
 }
 
 impl<'a, L: Line> Lines<'a, L> {
-    /// The lines of a table, in a plan of so many months, unless the table is refused as it stands.
+    /// The lines of a table, under the settings, unless the table is refused as it stands.
     pub fn read(
         alloc: Global,
         file: File,
-        months: u32,
+        setup: &Setup,
         grid: &'a Result<Cells, Refusal>,
     ) -> Result<Lines<'a, L>, ModelFault>
-        ensures { Gives (λ lines. lines) result (lines_in (L.line_of months) L.key_of file grid.now) }
+        ensures { Gives (λ lines. lines) result (lines_in (L.line_of setup.now) (L.key_of setup.now) file grid.now) }
     {
         match grid {
-            Ok(cells) => Lines::read_all(alloc, file, months, cells),
+            Ok(cells) => Lines::read_all(alloc, file, setup, cells),
             Err(refusal) => Err(ModelFault::Refused(*refusal)),
         }
     }
 
-    /// The lines of a table, in a plan of so many months.
+    /// The lines of a table, under the settings.
     fn read_all(
         alloc: Global,
         file: File,
-        months: u32,
+        setup: &Setup,
         cells: &'a Cells,
     ) -> Result<Lines<'a, L>, ModelFault>
-        ensures { Gives (λ lines. lines) result (lines_of (L.line_of months) L.key_of file cells.now) }
+        ensures { Gives (λ lines. lines) result (lines_of (L.line_of setup.now) (L.key_of setup.now) file cells.now) }
     {
         let mut lines = Lines::new(alloc, file, cells);
         for i in 0..cells.len() {
-            lines.add(&Row::new(cells, file, i + 1), months)?;
+            lines.add(&Row::new(cells, file, i + 1), setup)?;
         }
         Ok(lines)
     }
 
     /// Adds the line of one more record.
-    fn add(&mut self, row: &Row<'a>, months: u32) -> Result<(), ModelFault>
+    fn add(&mut self, row: &Row<'a>, setup: &Setup) -> Result<(), ModelFault>
         requires { length self.old.keys < 2 ^ 32 - 1 }
-        ensures read { Gives (λ _. self.new) result (with_line (L.line_of months) L.key_of row.now self.old) }
+        ensures read { Gives (λ _. self.new) result (with_line (L.line_of setup.now) (L.key_of setup.now) row.now self.old) }
         ensures more { OnOk result (length self.new.keys ≡ length self.old.keys + 1) }
     {
-        let line = L::read(row, months)?;
-        let key = line.key(row);
+        let line = L::read(row, setup)?;
+        let key = line.key(row, setup);
         if self.keys.has(key) {
             return Err(ModelFault::Refused(row.refused(0, Kind::Duplicate)));
         }

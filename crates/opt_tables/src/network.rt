@@ -17,7 +17,7 @@ use crate::places::PlaceLine;
 use crate::stock::StockLine;
 use opt_base::{File, ModelFault, OutOfMemory, Refusal};
 use opt_model::{Arc, Offer, Persons, Place, Stock};
-use opt_read::Cells;
+use opt_read::{Cells, Setup};
 use std::alloc::Global;
 use std::marker::Model;
 
@@ -42,7 +42,7 @@ pub struct Network<'a> {
 }
 
 /// The records of the network.
-#[derive(Drop)]
+#[derive(Debug, Drop)]
 pub struct NetworkRecords {
     pub places: Vec<Place>,
     pub offers: Vec<Offer>,
@@ -61,36 +61,36 @@ impl Model for NetworkRecords {
 
 impl NetworkGrids {
     /// Splits the tables of the network.
-    pub fn read(alloc: Global, files: &Files) -> Result<NetworkGrids, OutOfMemory>
+    pub fn read(alloc: Global, files: &Files, format: u32) -> Result<NetworkGrids, OutOfMemory>
         requires { (file : File) → length (bytes_of files.now file) < 2 ^ 32 }
-        ensures { IfOk result (λ grids. grids ≡ network_grids_of files.now) }
+        ensures { IfOk result (λ grids. grids ≡ network_grids_of files.now format) }
     {
         Ok(NetworkGrids {
-            places: table(alloc, files, File::Places)?,
-            offers: table(alloc, files, File::Offers)?,
-            arcs: table(alloc, files, File::Arcs)?,
-            persons: table(alloc, files, File::Persons)?,
-            stock: table(alloc, files, File::Stock)?,
+            places: table(alloc, files, format, File::Places)?,
+            offers: table(alloc, files, format, File::Offers)?,
+            arcs: table(alloc, files, format, File::Arcs)?,
+            persons: table(alloc, files, format, File::Persons)?,
+            stock: table(alloc, files, format, File::Stock)?,
         })
     }
 }
 
 impl<'a> Network<'a> {
-    /// What the tables of the network say, in a plan of so many months, or their first refusal.
+    /// What the tables of the network say, or their first refusal.
     #[tactic(auto, unfolding(crate::specs::Network::network_of))]
     pub fn read(
         alloc: Global,
+        setup: &Setup,
         grids: &'a NetworkGrids,
-        months: u32,
     ) -> Result<Network<'a>, ModelFault>
-        ensures { Gives (λ network. network) result (network_of months grids.now) }
+        ensures { Gives (λ network. network) result (network_of setup.now grids.now) }
     {
         Ok(Network {
-            places: Lines::read(alloc, File::Places, months, &grids.places)?,
-            offers: Lines::read(alloc, File::Offers, months, &grids.offers)?,
-            arcs: Lines::read(alloc, File::Arcs, months, &grids.arcs)?,
-            persons: Lines::read(alloc, File::Persons, months, &grids.persons)?,
-            stock: Lines::read(alloc, File::Stock, months, &grids.stock)?,
+            places: Lines::read(alloc, File::Places, setup, &grids.places)?,
+            offers: Lines::read(alloc, File::Offers, setup, &grids.offers)?,
+            arcs: Lines::read(alloc, File::Arcs, setup, &grids.arcs)?,
+            persons: Lines::read(alloc, File::Persons, setup, &grids.persons)?,
+            stock: Lines::read(alloc, File::Stock, setup, &grids.stock)?,
         })
     }
 }
@@ -98,16 +98,20 @@ impl<'a> Network<'a> {
 impl NetworkRecords {
     /// The records of the network, with the numbers of those that they name.
     #[tactic(auto, unfolding(crate::specs::Model::network_records_of))]
-    pub fn link(alloc: Global, tables: &TableLines<'_>) -> Result<NetworkRecords, ModelFault>
-        ensures { Gives (λ records. records) result (network_records_of tables.now.diet tables.now.network) }
+    pub fn link(
+        alloc: Global,
+        setup: &Setup,
+        tables: &TableLines<'_>,
+    ) -> Result<NetworkRecords, ModelFault>
+        ensures { Gives (λ records. records) result (network_records_of setup.now tables.now.diet tables.now.network tables.now.demand) }
     {
         let network = &tables.network;
         Ok(NetworkRecords {
-            places: linked(alloc, &network.places, tables)?,
-            offers: linked(alloc, &network.offers, tables)?,
-            arcs: linked(alloc, &network.arcs, tables)?,
-            persons: linked(alloc, &network.persons, tables)?,
-            stock: linked(alloc, &network.stock, tables)?,
+            places: linked(alloc, &network.places, setup, tables)?,
+            offers: linked(alloc, &network.offers, setup, tables)?,
+            arcs: linked(alloc, &network.arcs, setup, tables)?,
+            persons: linked(alloc, &network.persons, setup, tables)?,
+            stock: linked(alloc, &network.stock, setup, tables)?,
         })
     }
 }

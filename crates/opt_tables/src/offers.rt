@@ -1,9 +1,13 @@
+ghost use Rattle.std.specs.Prelude.{◌≡◌};
+ghost use Rattle.opt_tables.specs.Network.{lot_in};
+
 use crate::key::Key;
 use crate::lines::Line;
 use crate::link::{Link, TableLines};
 use crate::row::Row;
 use opt_base::{ModelFault, Refusal};
-use opt_model::{Name, Offer, PlaceKind};
+use opt_model::{Name, Offer, PlaceKind, has_lots};
+use opt_read::Setup;
 use std::alloc::Global;
 
 /// What a record of offers.csv says but for its names.
@@ -17,17 +21,48 @@ pub struct OfferLine {
     pub first: u32,
     /// The last month, 1 to 36.
     pub last: u32,
+    /// 0 and 0 in a format without fees and least lots.
+    pub lot: Lot,
+}
+
+/// The greatest fee, in mills per month in which something is ordered.
+pub const FEE_LIMIT: u64 = 1_000_000_000_000;
+
+/// What an order costs in itself, and how large it must be.
+#[derive(Clone, Copy, Debug, PartialEq, Eq)]
+pub struct Lot {
+    /// 0 to 10^12 mills per month in which something is ordered.
+    pub fee: i64,
+    /// 0 to 10^9 kilograms per month in which something is ordered.
+    pub least: u32,
+}
+
+impl Lot {
+    /// What the last two columns say; 0 and 0 in a format without them.
+    fn in_row(row: &Row<'_>, setup: &Setup) -> Result<Lot, Refusal>
+        ensures { result ≡ lot_in setup.now row.now }
+    {
+        if !has_lots(setup.format()) {
+            return Ok(Lot { fee: 0, least: 0 });
+        }
+        let fee = row.long_number(8, 0, FEE_LIMIT)?;
+        let least = row.number(9, 0, 1_000_000_000)?;
+        Ok(Lot {
+            fee: fee as i64,
+            least,
+        })
+    }
 }
 
 impl Line for OfferLine {
     ghost use Rattle.opt_tables.specs.Lines.{name_key};
     ghost use Rattle.opt_tables.specs.Network.{offer_line_of};
 
-    ghost line_of = { λ months. offer_line_of };
+    ghost line_of = { offer_line_of };
 
-    ghost key_of = { name_key };
+    ghost key_of = { λ settings. name_key };
 
-    fn read(row: &Row<'_>, _months: u32) -> Result<OfferLine, Refusal> {
+    fn read(row: &Row<'_>, setup: &Setup) -> Result<OfferLine, Refusal> {
         row.name(1)?;
         row.name(2)?;
         row.name(3)?;
@@ -36,10 +71,11 @@ impl Line for OfferLine {
             max_kg: row.number(5, 0, 1_000_000_000)?,
             first: row.number(6, 1, 36)?,
             last: row.number(7, 1, 36)?,
+            lot: Lot::in_row(row, setup)?,
         })
     }
 
-    fn key<'a>(&self, row: &Row<'a>) -> Key<'a> {
+    fn key<'a>(&self, row: &Row<'a>, _setup: &Setup) -> Key<'a> {
         Key::Name(row.text(1))
     }
 }
@@ -47,12 +83,13 @@ impl Line for OfferLine {
 impl Link<Offer> for OfferLine {
     ghost use Rattle.opt_tables.specs.Network.{offer_of};
 
-    ghost record_of = { λ tables. offer_of tables.diet tables.network };
+    ghost record_of = { λ settings tables. offer_of tables.diet tables.network };
 
     fn link(
         &self,
         alloc: Global,
         row: &Row<'_>,
+        _setup: &Setup,
         tables: &TableLines<'_>,
     ) -> Result<Offer, ModelFault> {
         let places = &tables.network.places;
@@ -66,8 +103,8 @@ impl Link<Offer> for OfferLine {
             max_kg: i64::from(self.max_kg),
             first: self.first,
             last: self.last,
-            fee: 0,
-            least: 0,
+            fee: self.lot.fee,
+            least: i64::from(self.lot.least),
         })
     }
 }

@@ -1,12 +1,17 @@
+ghost use Rattle.std.specs.Prelude.{◌≡◌};
+ghost use Rattle.opt_tables.specs.Network.{basket_in};
+
+use crate::demand::Demand;
 use crate::key::Key;
 use crate::lines::Line;
 use crate::link::{Link, TableLines};
 use crate::row::Row;
 use opt_base::{ModelFault, Refusal};
-use opt_model::{Persons, PlaceKind};
+use opt_model::{Persons, PlaceKind, has_baskets};
+use opt_read::Setup;
 use std::alloc::Global;
 
-/// What a record of persons.csv says but for its place.
+/// What a record of persons.csv says but for its names.
 #[derive(Clone, Copy, Debug, PartialEq, Eq)]
 pub struct PersonsLine {
     /// The month, from 1.
@@ -22,36 +27,57 @@ impl Line for PersonsLine {
 
     ghost key_of = { persons_key };
 
-    fn read(row: &Row<'_>, months: u32) -> Result<PersonsLine, Refusal> {
+    fn read(row: &Row<'_>, setup: &Setup) -> Result<PersonsLine, Refusal> {
         row.name(1)?;
-        Ok(PersonsLine {
-            month: row.number(2, 1, months)?,
-            persons: row.number(3, 0, 10_000_000)?,
-        })
+        let month = row.number(2, 1, setup.months())?;
+        let persons = row.number(3, 0, 10_000_000)?;
+        if has_baskets(setup.format()) {
+            row.name(4)?;
+        }
+        Ok(PersonsLine { month, persons })
     }
 
-    fn key<'a>(&self, row: &Row<'a>) -> Key<'a> {
-        Key::NameInMonth(row.text(1), self.month)
+    fn key<'a>(&self, row: &Row<'a>, setup: &Setup) -> Key<'a> {
+        if has_baskets(setup.format()) {
+            Key::NamesInMonth(row.text(1), row.text(4), self.month)
+        } else {
+            Key::NameInMonth(row.text(1), self.month)
+        }
     }
 }
 
 impl Link<Persons> for PersonsLine {
     ghost use Rattle.opt_tables.specs.Network.{persons_of};
 
-    ghost record_of = { λ tables. persons_of tables.network };
+    ghost record_of = { λ settings tables. persons_of settings tables.network tables.demand };
 
     fn link(
         &self,
         _alloc: Global,
         row: &Row<'_>,
+        setup: &Setup,
         tables: &TableLines<'_>,
     ) -> Result<Persons, ModelFault> {
-        let places = &tables.network.places;
+        let place = tables.network.places.of_kind(row, 1, PlaceKind::Point)?;
+        let basket = tables.demand.basket(row, setup)?;
         Ok(Persons {
-            place: places.of_kind(row, 1, PlaceKind::Point)?,
+            place,
             month: self.month,
             persons: i64::from(self.persons),
-            basket: 0,
+            basket,
         })
+    }
+}
+
+impl Demand<'_> {
+    /// The number of the basket that the column of baskets names; that of the one basket in a format without baskets of its own.
+    fn basket(&self, row: &Row<'_>, setup: &Setup) -> Result<u32, Refusal>
+        ensures { result ≡ basket_in setup.now row.now self.now }
+    {
+        if has_baskets(setup.format()) {
+            row.reference(4, self.baskets.keys())
+        } else {
+            Ok(0)
+        }
     }
 }

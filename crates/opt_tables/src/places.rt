@@ -1,5 +1,5 @@
 ghost use Rattle.std.specs.Prelude.{◌≡◌};
-ghost use Rattle.opt_tables.specs.Network.{has_kind, place_of_kind_at, end_at};
+ghost use Rattle.opt_tables.specs.Network.{has_kind, place_of_kind_in, end_in};
 
 use crate::key::Key;
 use crate::lines::{Line, Lines};
@@ -7,6 +7,7 @@ use crate::link::{Link, TableLines};
 use crate::row::Row;
 use opt_base::{Kind, ModelFault, Refusal};
 use opt_model::{Name, Place, PlaceKind};
+use opt_read::Setup;
 use std::alloc::Global;
 
 /// What a record of places.csv says but for its name.
@@ -27,11 +28,11 @@ impl Line for PlaceLine {
     ghost use Rattle.opt_tables.specs.Lines.{name_key};
     ghost use Rattle.opt_tables.specs.Network.{place_line_of};
 
-    ghost line_of = { λ months. place_line_of };
+    ghost line_of = { λ settings. place_line_of };
 
-    ghost key_of = { name_key };
+    ghost key_of = { λ settings. name_key };
 
-    fn read(row: &Row<'_>, _months: u32) -> Result<PlaceLine, Refusal> {
+    fn read(row: &Row<'_>, _setup: &Setup) -> Result<PlaceLine, Refusal> {
         row.name(1)?;
         Ok(PlaceLine {
             kind: row.place_kind(2)?,
@@ -42,7 +43,7 @@ impl Line for PlaceLine {
         })
     }
 
-    fn key<'a>(&self, row: &Row<'a>) -> Key<'a> {
+    fn key<'a>(&self, row: &Row<'a>, _setup: &Setup) -> Key<'a> {
         Key::Name(row.text(1))
     }
 }
@@ -50,12 +51,13 @@ impl Line for PlaceLine {
 impl Link<Place> for PlaceLine {
     ghost use Rattle.opt_tables.specs.Network.{place_of};
 
-    ghost record_of = { λ tables. place_of };
+    ghost record_of = { λ settings tables. place_of };
 
     fn link(
         &self,
         alloc: Global,
         row: &Row<'_>,
+        _setup: &Setup,
         _tables: &TableLines<'_>,
     ) -> Result<Place, ModelFault> {
         Ok(Place {
@@ -82,7 +84,7 @@ impl Lines<'_, PlaceLine> {
 
     /// The number of the place that a column names, which must be of this kind.
     pub fn of_kind(&self, row: &Row<'_>, column: u8, kind: PlaceKind) -> Result<u32, Refusal>
-        ensures { result ≡ place_of_kind_at kind row.now column self.now }
+        ensures { result ≡ place_of_kind_in kind row.now column self.now }
     {
         let place = row.reference(column, self.keys())?;
         if self.has_kind(place, kind) {
@@ -94,7 +96,7 @@ impl Lines<'_, PlaceLine> {
 
     /// The number of the place that a column names, where an arc from the place `start` ends: no supplier, and not `start`.
     pub fn end(&self, row: &Row<'_>, column: u8, start: u32) -> Result<u32, Refusal>
-        ensures { result ≡ end_at row.now column self.now start }
+        ensures { result ≡ end_in row.now column self.now start }
     {
         let place = row.reference(column, self.keys())?;
         if self.has_kind(place, PlaceKind::Supplier) || place == start {

@@ -3,7 +3,7 @@ ghost use Rattle.std.specs.Char.{is_ascii_digit};
 ghost use Rattle.std.specs.List.{list_all};
 ghost use Rattle.std.specs.Str.Parse.{digits_value};
 ghost use Rattle.opt_base.specs.Answers.{Reads};
-ghost use Rattle.opt_tables.specs.Records.{row_of, refused_at, text_at, reference_at, optional_reference_at, optional_name_at, name_at, is_number, number_at, optional_number_at, kind_named, kind_at};
+ghost use Rattle.opt_tables.specs.Records.{row_of, refused_at, text_in, reference_in, optional_reference_in, optional_name_in, name_in, is_number, number_in, optional_number_in, kind_named, kind_in};
 
 use crate::keys::Keys;
 use opt_base::{File, Kind, Refusal};
@@ -47,17 +47,12 @@ impl<'a> Row<'a> {
     pub fn refused(&self, column: u8, kind: Kind) -> Refusal
         ensures { result ≡ refused_at self.now column kind }
     {
-        Refusal {
-            file: self.file,
-            number: self.number,
-            column,
-            kind,
-        }
+        Refusal::at(self.file, self.number, column, kind)
     }
 
     /// What stands in a column.
     pub fn text(&self, column: u8) -> &'a str
-        ensures { result.now ≡ text_at self.now column }
+        ensures { result.now ≡ text_in self.now column }
     {
         self.cells
             .field(self.number, (column as usize).saturating_sub(1))
@@ -65,7 +60,7 @@ impl<'a> Row<'a> {
 
     /// A name that may be missing.
     pub fn optional_name(&self, column: u8) -> Result<&'a str, Refusal>
-        ensures { Reads (λ name. name.now) result (optional_name_at self.now column) }
+        ensures { Reads (λ name. name.now) result (optional_name_in self.now column) }
     {
         let text = self.text(column);
         if text.len() > NAME_LIMIT {
@@ -76,7 +71,7 @@ impl<'a> Row<'a> {
 
     /// A name, of at least one byte.
     pub fn name(&self, column: u8) -> Result<&'a str, Refusal>
-        ensures { Reads (λ name. name.now) result (name_at self.now column) }
+        ensures { Reads (λ name. name.now) result (name_in self.now column) }
     {
         if self.text(column).is_empty() {
             return Err(self.refused(column, Kind::EmptyName));
@@ -86,7 +81,16 @@ impl<'a> Row<'a> {
 
     /// A number from `low` to `high`.
     pub fn number(&self, column: u8, low: u32, high: u32) -> Result<u32, Refusal>
-        ensures exact { result ≡ number_at self.now column low high }
+        ensures exact { result ≡ number_in self.now column low high }
+        ensures within { IfOk result (λ number. (low ≤ number) × (number ≤ high)) }
+    {
+        let number = self.long_number(column, u64::from(low), u64::from(high))?;
+        Ok(number as u32)
+    }
+
+    /// The same of a number that may pass 32 bits.
+    pub fn long_number(&self, column: u8, low: u64, high: u64) -> Result<u64, Refusal>
+        ensures exact { result ≡ number_in self.now column low high }
         ensures within { IfOk result (λ number. (low ≤ number) × (number ≤ high)) }
     {
         let text = self.text(column);
@@ -104,7 +108,7 @@ impl<'a> Row<'a> {
 
     /// The same of a column that may be empty.
     pub fn optional_number(&self, column: u8, low: u32, high: u32) -> Result<Option<u32>, Refusal>
-        ensures { result ≡ optional_number_at self.now column low high }
+        ensures { result ≡ optional_number_in self.now column low high }
     {
         if self.text(column).is_empty() {
             return Ok(None);
@@ -115,14 +119,14 @@ impl<'a> Row<'a> {
 
     /// The kind of place that a column names.
     pub fn place_kind(&self, column: u8) -> Result<PlaceKind, Refusal>
-        ensures { result ≡ kind_at self.now column }
+        ensures { result ≡ kind_in self.now column }
     {
         kind_named(self.text(column)).ok_or(self.refused(column, Kind::UnknownName))
     }
 
     /// The number of the record that a column names, from 0, among the keys of a table.
     pub fn reference(&self, column: u8, keys: &Keys<'_>) -> Result<u32, Refusal>
-        ensures { result ≡ reference_at self.now column keys.now }
+        ensures { result ≡ reference_in self.now column keys.now }
     {
         keys.find(self.text(column))
             .ok_or(self.refused(column, Kind::UnknownName))
@@ -130,7 +134,7 @@ impl<'a> Row<'a> {
 
     /// The same of a column that may be empty.
     pub fn optional_reference(&self, column: u8, keys: &Keys<'_>) -> Result<Option<u32>, Refusal>
-        ensures { result ≡ optional_reference_at self.now column keys.now }
+        ensures { result ≡ optional_reference_in self.now column keys.now }
     {
         if self.text(column).is_empty() {
             return Ok(None);
@@ -167,10 +171,10 @@ fn are_digits(bytes: &[u8]) -> bool
     bytes.iter().all(|byte| byte.is_ascii_digit())
 }
 
-/// The number that digits stand for, where it has at most 32 bits.
-fn digits(text: &str) -> Option<u32>
+/// The number that digits stand for, where it has at most 64 bits.
+fn digits(text: &str) -> Option<u64>
     requires { IsTrue (is_number text.now) }
-    ensures { MatchOption result (2 ^ 32 ≤ digits_value 10 text.now) (λ number. number ≡ digits_value 10 text.now) }
+    ensures { MatchOption result (2 ^ 64 ≤ digits_value 10 text.now) (λ number. number ≡ digits_value 10 text.now) }
 {
-    text.parse::<u32>().ok()
+    text.parse::<u64>().ok()
 }

@@ -4,6 +4,7 @@ use crate::link::{Link, TableLines};
 use crate::row::Row;
 use opt_base::{ModelFault, Refusal};
 use opt_model::Stock;
+use opt_read::Setup;
 use std::alloc::Global;
 
 /// What a record of stock.csv says but for its names.
@@ -20,18 +21,18 @@ impl Line for StockLine {
 
     ghost line_of = { stock_line_of };
 
-    ghost key_of = { stock_key };
+    ghost key_of = { λ settings. stock_key };
 
-    fn read(row: &Row<'_>, months: u32) -> Result<StockLine, Refusal> {
+    fn read(row: &Row<'_>, setup: &Setup) -> Result<StockLine, Refusal> {
         row.name(1)?;
         row.name(2)?;
         Ok(StockLine {
-            month: row.number(3, 1, months)?,
+            month: row.number(3, 1, setup.months())?,
             kg: row.number(4, 0, 1_000_000_000)?,
         })
     }
 
-    fn key<'a>(&self, row: &Row<'a>) -> Key<'a> {
+    fn key<'a>(&self, row: &Row<'a>, _setup: &Setup) -> Key<'a> {
         Key::NamesInMonth(row.text(1), row.text(2), self.month)
     }
 }
@@ -39,12 +40,13 @@ impl Line for StockLine {
 impl Link<Stock> for StockLine {
     ghost use Rattle.opt_tables.specs.Network.{stock_of};
 
-    ghost record_of = { λ tables. stock_of tables.diet tables.network };
+    ghost record_of = { λ settings tables. stock_of tables.diet tables.network };
 
     fn link(
         &self,
         _alloc: Global,
         row: &Row<'_>,
+        _setup: &Setup,
         tables: &TableLines<'_>,
     ) -> Result<Stock, ModelFault> {
         Ok(Stock {

@@ -1,11 +1,14 @@
 mod columns;
 mod folders;
+mod formats;
 mod forms;
+mod likeness;
 mod marks;
 mod models;
 mod order;
 mod records;
 mod references;
+mod whole_folder;
 
 use crate::{Files, Tables, read_model};
 use opt_base::{Blob, File, Kind, ModelFault, OutOfMemory, Refusal};

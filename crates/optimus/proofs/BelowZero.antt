@@ -7,7 +7,7 @@ use Rattle.std.specs.List.{flat_map, enumerate_from, range_with_len}
 use Rattle.std.specs.Int.Signed.{≤ℤ_refl}
 use Rattle.std.specs.Ordering.{int_eq}
 use Rattle.opt_model.specs.Tables.{Tables}
-use Rattle.opt_model.specs.Quantities.{names, low, high}
+use Rattle.opt_model.specs.Quantities.{quantities, low, high}
 use Rattle.opt_model.specs.Rows.{Terms}
 use Rattle.opt_model.specs.Plans.{Plan, sum_of, Feasible, Below, goal_terms}
 use Rattle.opt_model.specs.declared.records.Goal.TheVariants.{Shortfall}
@@ -16,16 +16,16 @@ use Rattle.opt_model.specs.declared.quantity.Quantity.{Quantity}
 use Rattle.opt_model.specs.declared.quantity.Quantity.TheVariants.{Short}
 use Rattle.opt_model.proofs.Sums.{sum_of-append}
 use Rattle.opt_sums.proofs.Ring.{mul_le, mul_sub}
-use Rattle.optimus.specs.OneBasket.{IsNeed}
+use Rattle.opt_tables.specs.Facts.{IsNeed}
 
 -- a quantity whose lowest value is 0 is not negative in a feasible plan, whether it exists or not
-not_negative : (t : Tables) (plan : Plan) → Feasible t plan → (q : Quantity) → low t q ≡ pos 0 → pos 0 ≤ℤ plan q
+pub not_negative : (t : Tables) (plan : Plan) → Feasible t plan → (q : Quantity) → low t q ≡ pos 0 → pos 0 ≤ℤ plan q
 not_negative t plan feasible q lowest = elim (cases_Bool (int_eq (plan q) (pos 0))) [
   | inl none ↦
       let is : plan q ≡ pos 0 = (Decides-int_eq (plan q) (pos 0)).0 none in
       omega (arith, ints, is)
   | inr some ↦
-      let listed : Contains (names t) q = feasible.lists_only q (λ e. both_ways (int_eq (plan q) (pos 0)) some ((Decides-int_eq (plan q) (pos 0)).1 e)) in
+      let listed : Contains (quantities t) q = feasible.lists_only q (λ e. both_ways (int_eq (plan q) (pos 0)) some ((Decides-int_eq (plan q) (pos 0)).1 e)) in
       let within : (low t q ≤ℤ plan q) × (plan q ≤ℤ high t q) = subst (λ r. (low t r ≤ℤ plan r) × (plan r ≤ℤ high t r)) listed.2 (feasible.in_range listed.0 q listed.1) in
       omega (arith, ints, within.0, lowest)
 ]

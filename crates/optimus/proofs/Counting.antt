@@ -5,7 +5,7 @@ use Rattle.std.proofs.lemmas.Bool.{cases_eq, eq-eqb, ne_eqb}
 use Rattle.std.proofs.lemmas.List.Sums.{sum_by-cons}
 use Rattle.std.specs.List.{flat_map, enumerate_from, sum_by, count_by}
 use Rattle.std.specs.Ordering.{int_eq}
-use Rattle.opt_model.specs.Quantities.{given, sum_over}
+use Rattle.opt_model.specs.Quantities.{list_if, sum_over}
 
 -- 1 where a test passed, else 0
 abbrev pub bit : Bool → ℕ
@@ -88,18 +88,18 @@ sum_by-over size g k [] = refl
 sum_by-over size g k (x ∷ xs) =
     sum_by-cons size (g k x) (flat_map (λ r. g r.0 r.1 ∷ []) (enumerate_from (k + 1) xs)) ∙ ap (λ n. size (g k x) + n) (sum_by-over size g (k + 1) xs)
 
-length-given : {A : Type 0} (b : Bool) (x : A) → length (given b (x ∷ [])) ≡ bit b
+length-given : {A : Type 0} (b : Bool) (x : A) → length (list_if b (x ∷ [])) ≡ bit b
 length-given false x = refl
 length-given true x = refl
 
 -- a list of one element for each record that passes a test
 pub length-given_over : {A B : Type 0} (p : A → Bool) (f : ℕ → A → B) (k : ℕ) (xs : List A)
-    → length (flat_map (λ r. given (p r.1) (f r.0 r.1 ∷ [])) (enumerate_from k xs)) ≡ count_by p xs
+    → length (flat_map (λ r. list_if (p r.1) (f r.0 r.1 ∷ [])) (enumerate_from k xs)) ≡ count_by p xs
 length-given_over p f k [] = refl
 length-given_over p f k (x ∷ xs) =
     omega (
       arith,
-      length-append (given (p x) (f k x ∷ [])) (flat_map (λ r. given (p r.1) (f r.0 r.1 ∷ [])) (enumerate_from (k + 1) xs)),
+      length-append (list_if (p x) (f k x ∷ [])) (flat_map (λ r. list_if (p r.1) (f r.0 r.1 ∷ [])) (enumerate_from (k + 1) xs)),
       length-given (p x) (f k x),
       length-given_over p f (k + 1) xs,
       sum_by-cons (λ y. bit (p y)) x xs,

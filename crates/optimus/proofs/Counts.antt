@@ -9,8 +9,8 @@ use Rattle.std.specs.List.{flat_map, enumerate_from, sum_by, count_by}
 use Rattle.std.specs.Option.{is_some}
 use Rattle.std.specs.Ordering.{int_eq}
 use Rattle.opt_model.specs.Tables.{Tables}
-use Rattle.opt_model.specs.Quantities.{over, given, names, step_of}
-use Rattle.opt_model.specs.Rows.{Row, Terms, at_least, rows, nutrient_terms, budget_rows, cost_terms, negated, coefficient, numbered}
+use Rattle.opt_model.specs.Quantities.{over, list_if, quantities, step_of}
+use Rattle.opt_model.specs.Rows.{Row, Terms, at_least, rows, nutrient_terms, budget_rows, cost_terms, negation, coefficient, coefficients_by_number}
 use Rattle.opt_model.specs.Limits.{term_count}
 use Rattle.opt_model.specs.declared.records.Commodity.{Commodity}
 use Rattle.opt_model.specs.declared.records.Content.{Content}
@@ -20,14 +20,14 @@ use Rattle.opt_model.specs.declared.quantity.Quantity.TheVariants.{Ration, Short
 use Rattle.opt_model.specs.declared.quantity.RowName.TheVariants as row
 use Rattle.opt_model.proofs.Sums.{length-over_one, over-empty}
 use Rattle.opt_sums.proofs.Ring.{mul_le}
-use Rattle.optimus.specs.OneBasket.{IsOneBasket, IsNeedOf}
-use Rattle.optimus.specs.Candidate.{basket_part}
+use Rattle.optimus.specs.OneBasket.{IsOneBasket}
+use Rattle.opt_tables.specs.Facts.{IsNeedOf}
 use Rattle.optimus.proofs.OneBasket.{rations_in, shorts_in, need_row, names_are, rows_are, costs_nothing}
 use Rattle.optimus.proofs.FirstPlan.{of_record_at}
 use Rattle.optimus.proofs.Counting.{bit, sum_from-same, sum_from-add, sum_from-ones, one_from, count_by_key, count_by-same, sum_by-over, length-given_over, weight_of, one_weighs}
 
 -- the quantities are as many as the commodities and the needs
-pub quantities_are : (t : Tables) → IsOneBasket t → length (names t) ≡ length t.commodities + length t.needs
+pub quantities_are : (t : Tables) → IsOneBasket t → length (quantities t) ≡ length t.commodities + length t.needs
 quantities_are t one =
     ap length (names_are t one) ∙ (length-append (rations_in t.commodities) (shorts_in t.needs)
     ∙ omega (arith, length-over_one (λ c (x : Commodity). Ration 0 c 1 ∷ []) 0 t.commodities (λ n x. refl), length-over_one (λ d (x : Need). Short d 1 ∷ []) 0 t.needs (λ n x. refl)))
@@ -62,17 +62,17 @@ coefficient-append (x ∷ xs) ys q = omega (arith, ints, coefficient-append xs y
 
 -- the terms of contents for a nutrient
 abbrev terms_from : (Content → ℤ) → ℕ → ℕ → List Content → Terms
-terms_from w nutrient k xs = flat_map (λ x. given (x.1.nutrient == nutrient) ((Ration 0 x.1.commodity 1, w x.1) ∷ [])) (enumerate_from k xs)
+terms_from w nutrient k xs = flat_map (λ x. list_if (x.1.nutrient == nutrient) ((Ration 0 x.1.commodity 1, w x.1) ∷ [])) (enumerate_from k xs)
 
 -- they have none at a shortfall
-given_short : (b : Bool) (w : ℤ) (c d : ℕ) → coefficient (given b ((Ration 0 c 1, w) ∷ [])) (Short d 1) ≡ pos 0
+given_short : (b : Bool) (w : ℤ) (c d : ℕ) → coefficient (list_if b ((Ration 0 c 1, w) ∷ [])) (Short d 1) ≡ pos 0
 given_short false w c d = refl
 given_short true w c d = refl
 
 terms_at_short : (w : Content → ℤ) (nutrient d k : ℕ) (xs : List Content) → coefficient (terms_from w nutrient k xs) (Short d 1) ≡ pos 0
 terms_at_short w nutrient d k [] = refl
 terms_at_short w nutrient d k (x ∷ xs) =
-    coefficient-append (given (x.nutrient == nutrient) ((Ration 0 x.commodity 1, w x) ∷ [])) (terms_from w nutrient (k + 1) xs) (Short d 1)
+    coefficient-append (list_if (x.nutrient == nutrient) ((Ration 0 x.commodity 1, w x) ∷ [])) (terms_from w nutrient (k + 1) xs) (Short d 1)
     ∙ omega (arith, ints, given_short (x.nutrient == nutrient) (w x) x.commodity d, terms_at_short w nutrient d (k + 1) xs)
 
 -- a coefficient that is there or not, and nothing more
@@ -84,7 +84,7 @@ not_given : (b : Bool) (w : ℤ) → pos 0 ≡ cond (b && false) w (pos 0)
 not_given false w = refl
 not_given true w = refl
 
-given_ration : (b : Bool) (w : ℤ) (c r : ℕ) → coefficient (given b ((Ration 0 r 1, w) ∷ [])) (Ration 0 c 1) ≡ cond (eqb r c && b) w (pos 0)
+given_ration : (b : Bool) (w : ℤ) (c r : ℕ) → coefficient (list_if b ((Ration 0 r 1, w) ∷ [])) (Ration 0 c 1) ≡ cond (eqb r c && b) w (pos 0)
 given_ration false w c r = not_given (eqb r c) w
 given_ration true w c r = plus_none (eqb r c) w
 
@@ -92,7 +92,7 @@ given_ration true w c r = plus_none (eqb r c) w
 terms_at_ration : (w : Content → ℤ) (nutrient c k : ℕ) (xs : List Content) → coefficient (terms_from w nutrient k xs) (Ration 0 c 1) ≡ weight_of (λ r. eqb r.commodity c && eqb r.nutrient nutrient) w xs
 terms_at_ration w nutrient c k [] = refl
 terms_at_ration w nutrient c k (x ∷ xs) =
-    coefficient-append (given (x.nutrient == nutrient) ((Ration 0 x.commodity 1, w x) ∷ [])) (terms_from w nutrient (k + 1) xs) (Ration 0 c 1)
+    coefficient-append (list_if (x.nutrient == nutrient) ((Ration 0 x.commodity 1, w x) ∷ [])) (terms_from w nutrient (k + 1) xs) (Ration 0 c 1)
     ∙ omega (arith, ints, given_ration (x.nutrient == nutrient) (w x) c x.commodity, terms_at_ration w nutrient c (k + 1) xs)
 
 -- the content gives something
@@ -139,11 +139,11 @@ short_counts t i n =
     ap (λ z. bit (not (int_eq z (pos 0)))) whole ∙ short_counted (eqb i n)
 
 -- the coefficients other than 0 of the row of a need
-left_counts : (t : Tables) → IsOneBasket t → (i : ℕ) → i < length t.needs → length (numbered (names t) (left_of t i)) ≡ count_by (λ r. eqb r.nutrient i && gives r) t.contents + 1
+left_counts : (t : Tables) → IsOneBasket t → (i : ℕ) → i < length t.needs → length (coefficients_by_number (quantities t) (left_of t i)) ≡ count_by (λ r. eqb r.nutrient i && gives r) t.contents + 1
 left_counts t one i h =
     let counts : Quantity → Bool = counts_in (left_of t i) in
-    let whole : length (numbered (names t) (left_of t i)) ≡ count_by counts (names t) = length-given_over counts (λ number q. (number, coefficient (left_of t i) q)) 0 (names t) in
-    let parts : count_by counts (names t) ≡ count_by counts (rations_in t.commodities) + count_by counts (shorts_in t.needs) =
+    let whole : length (coefficients_by_number (quantities t) (left_of t i)) ≡ count_by counts (quantities t) = length-given_over counts (λ number q. (number, coefficient (left_of t i) q)) 0 (quantities t) in
+    let parts : count_by counts (quantities t) ≡ count_by counts (rations_in t.commodities) + count_by counts (shorts_in t.needs) =
     ap (count_by counts) (names_are t one) ∙ sum_by-append (λ q. bit (counts q)) (rations_in t.commodities) (shorts_in t.needs) in
     let of_rations : count_by counts (rations_in t.commodities) ≡ count_by (λ r. eqb r.nutrient i && gives r) t.contents =
     sum_by-over (λ q. bit (counts q)) (λ c (x : Commodity). Ration 0 c 1) 0 t.commodities
@@ -162,26 +162,26 @@ row_of t d need =
     record { name = row.Nutrient need.basket need.nutrient 1; relation = at_least; left = nutrient_terms t need.basket need.nutrient 1 ++ (Short d 1, pos 100) ∷ []; right = pos 100 *ℤ need.required }
 
 row_counts : (t : Tables) → IsOneBasket t → (i : ℕ) (d : Need) → i < length t.needs
-    → length (numbered (names t) (row_of t i (get_or t.needs i d)).left) ≡ count_by (λ r. eqb r.nutrient i && gives r) t.contents + 1
+    → length (coefficients_by_number (quantities t) (row_of t i (get_or t.needs i d)).left) ≡ count_by (λ r. eqb r.nutrient i && gives r) t.contents + 1
 row_counts t one i d h =
     let need : Need = get_or t.needs i d in
     let of_need : IsNeedOf i need = one.in_order i d h in
     let same : nutrient_terms t need.basket need.nutrient 1 ≡ terms_from (step_gives t) i 0 t.contents =
     ap (λ b. nutrient_terms t b need.nutrient 1) of_need.basket ∙ ap (λ n. nutrient_terms t 0 n 1) of_need.nutrient in
-    ap (λ terms. length (numbered (names t) (terms ++ (Short i 1, pos 100) ∷ []))) same ∙ left_counts t one i h
+    ap (λ terms. length (coefficients_by_number (quantities t) (terms ++ (Short i 1, pos 100) ∷ []))) same ∙ left_counts t one i h
 
 -- the budget's row has none
-budget_counts : (t : Tables) → IsOneBasket t → (o : Option ℤ) → sum_by (λ r. length (numbered (names t) r.left)) (budget_rows t o) ≡ 0
+budget_counts : (t : Tables) → IsOneBasket t → (o : Option ℤ) → sum_by (λ r. length (coefficients_by_number (quantities t) r.left)) (budget_rows t o) ≡ 0
 budget_counts t one None = refl
 budget_counts t one (Some limit) =
-    let nothing : negated (cost_terms t) ≡ [] = ap negated (costs_nothing t one) in
-    let empty : numbered (names t) [] ≡ [] = over-empty 0 (names t) _ (λ n q. refl) in
-    ap (λ terms. 0 + length (numbered (names t) terms)) nothing ∙ ap (λ xs. 0 + length xs) empty
+    let nothing : negation (cost_terms t) ≡ [] = ap negation (costs_nothing t one) in
+    let empty : coefficients_by_number (quantities t) [] ≡ [] = over-empty 0 (quantities t) _ (λ n q. refl) in
+    ap (λ terms. 0 + length (coefficients_by_number (quantities t) terms)) nothing ∙ ap (λ xs. 0 + length xs) empty
 
 -- the terms are those of the contents that give something, and one for each shortfall
 pub terms_are : (t : Tables) → IsOneBasket t → term_count t ≡ count_by (λ r. int_lt (pos 0) r.per_100g) t.contents + length t.needs
 terms_are t one =
-    let size : Row → ℕ = λ r. length (numbered (names t) r.left) in
+    let size : Row → ℕ = λ r. length (coefficients_by_number (quantities t) r.left) in
     let of_needs : sum_by size (over t.needs (need_row t)) ≡ count_by gives t.contents + length t.needs =
     sum_by-over size (row_of t) 0 t.needs
     ∙ (sum_from-same (λ d need. size (row_of t d need)) (λ d need. count_by (λ r. eqb r.nutrient d && gives r) t.contents + 1) 0 t.needs
@@ -194,13 +194,3 @@ terms_are t one =
     ))) in
     ap (sum_by size) (rows_are t one) ∙ (sum_by-append size (over t.needs (need_row t)) (budget_rows t t.settings.budget)
     ∙ omega (arith, of_needs, budget_counts t one t.settings.budget))
-
--- the same of the basket of a model, by the model's own tables
-pub quantities_of_basket : (t : Tables) → IsOneBasket (basket_part t) → length (names (basket_part t)) ≡ length t.commodities + length t.needs
-quantities_of_basket t one = quantities_are (basket_part t) one
-
-pub rows_of_basket : (t : Tables) → IsOneBasket (basket_part t) → length (rows (basket_part t)) ≡ length t.needs + cond (is_some t.settings.budget) 1 0
-rows_of_basket t one = rows_are_counted (basket_part t) one
-
-pub terms_of_basket : (t : Tables) → IsOneBasket (basket_part t) → term_count (basket_part t) ≡ count_by (λ r. int_lt (pos 0) r.per_100g) t.contents + length t.needs
-terms_of_basket t one = terms_are (basket_part t) one

@@ -8,11 +8,11 @@ use Rattle.std.proofs.lemmas.List.Folds.{list_any-append, Any-from_list_any}
 use Rattle.std.proofs.lemmas.List.Sums.{AllPass-from_list_all}
 use Rattle.std.specs.List.{flat_map, enumerate_from, range_with_len, list_any}
 use Rattle.opt_model.specs.Tables.{Tables}
-use Rattle.opt_model.specs.Quantities.{over, names, low, high, same_quantity, of_record, most_steps, least_steps, ceil_div, sum_over, given, step_of}
-use Rattle.opt_model.specs.Rows.{nutrient_terms, budget_rows, cost_terms, negated}
-use Rattle.opt_model.specs.Plans.{Plan, sum_of, Holds, Feasible, goal_of, goal_terms}
+use Rattle.opt_model.specs.Quantities.{over, quantities, low, high, same_quantity, of_record, most_steps, least_steps, ceil_div, sum_over, list_if, step_of}
+use Rattle.opt_model.specs.Rows.{nutrient_terms, budget_rows, cost_terms, negation}
+use Rattle.opt_model.specs.Plans.{Plan, sum_of, Holds, Feasible, objective_of, goal_terms}
 use Rattle.opt_model.specs.Verdicts.{Attains, IsTrueVerdict}
-use Rattle.opt_model.specs.declared.verdict.Verdict.TheVariants as verdict
+use Rattle.opt_base.specs.declared.verdict.Verdict.TheVariants as verdict
 use Rattle.opt_model.specs.declared.records.Commodity.{Commodity}
 use Rattle.opt_model.specs.declared.records.Content.{Content}
 use Rattle.opt_model.specs.declared.records.Need.{Need}
@@ -22,13 +22,14 @@ use Rattle.opt_model.proofs.Quantities.{same_quantity-self, same_quantity-true}
 use Rattle.opt_model.proofs.Feasibility.{le_from_test}
 use Rattle.opt_model.proofs.Sums.{sum_of-append, list_any-over, All-over}
 use Rattle.opt_sums.proofs.Ring.{mul_assoc, mul_le, mul_neg}
-use Rattle.optimus.specs.OneBasket.{IsOneBasket, IsNeed, IsContent, IsNeedOf}
+use Rattle.optimus.specs.OneBasket.{IsOneBasket}
+use Rattle.opt_tables.specs.Facts.{IsNeed, IsContent, IsNeedOf}
 use Rattle.optimus.specs.First.{greatest_grams, given_by, given_of, least_short_beside, least_short, first_value, first_plan, has_first, first_lack, first_verdict}
 use Rattle.optimus.proofs.BelowZero.{nothing_below_zero}
 use Rattle.optimus.proofs.OneBasket.{rations_in, shorts_in, need_row, names_are, rows_are, costs_nothing}
 
 -- the ration of a commodity that is there exists
-pub ration_is_listed : (t : Tables) → IsOneBasket t → (c : ℕ) (d : Commodity) → c < length t.commodities → list_any (same_quantity (Ration 0 c 1)) (names t) ≡ true
+pub ration_is_listed : (t : Tables) → IsOneBasket t → (c : ℕ) (d : Commodity) → c < length t.commodities → list_any (same_quantity (Ration 0 c 1)) (quantities t) ≡ true
 ration_is_listed t one c d h =
     let p : Quantity → Bool = same_quantity (Ration 0 c 1) in
     let here : list_any p (Ration 0 (0 + c) 1 ∷ []) ≡ true = subst (λ n. list_any p (Ration 0 n 1 ∷ []) ≡ true) (sym (zero-add c)) (or_left _ _ (same_quantity-self (Ration 0 c 1))) in
@@ -36,7 +37,7 @@ ration_is_listed t one c d h =
     ∙ or_left _ _ (list_any-over (λ c _. Ration 0 c 1 ∷ []) p 0 t.commodities c d h here))
 
 -- the shortfall of a need that is there exists
-pub short_is_listed : (t : Tables) → IsOneBasket t → (i : ℕ) (d : Need) → i < length t.needs → list_any (same_quantity (Short i 1)) (names t) ≡ true
+pub short_is_listed : (t : Tables) → IsOneBasket t → (i : ℕ) (d : Need) → i < length t.needs → list_any (same_quantity (Short i 1)) (quantities t) ≡ true
 short_is_listed t one i d h =
     let p : Quantity → Bool = same_quantity (Short i 1) in
     let here : list_any p (Short (0 + i) 1 ∷ []) ≡ true = subst (λ n. list_any p (Short n 1 ∷ []) ≡ true) (sym (zero-add i)) (or_left _ _ (same_quantity-self (Short i 1))) in
@@ -71,10 +72,10 @@ content_term t one r is true =
 
 -- the greatest rations give what their contents say
 contents_sum : (t : Tables) → IsOneBasket t → (n k : ℕ) (xs : List Content) → All (IsContent t) xs
-    → sum_of (flat_map (λ x. given (x.1.nutrient == n) ((Ration 0 x.1.commodity 1, x.1.per_100g *ℤ step_of t x.1.commodity) ∷ [])) (enumerate_from k xs)) (first_plan t) ≡ sum_over xs (given_by t n)
+    → sum_of (flat_map (λ x. list_if (x.1.nutrient == n) ((Ration 0 x.1.commodity 1, x.1.per_100g *ℤ step_of t x.1.commodity) ∷ [])) (enumerate_from k xs)) (first_plan t) ≡ sum_over xs (given_by t n)
 contents_sum t one n k [] h = refl
 contents_sum t one n k (x ∷ xs) h =
-    sum_of-append (given (x.nutrient == n) ((Ration 0 x.commodity 1, x.per_100g *ℤ step_of t x.commodity) ∷ [])) _ (first_plan t)
+    sum_of-append (list_if (x.nutrient == n) ((Ration 0 x.commodity 1, x.per_100g *ℤ step_of t x.commodity) ∷ [])) _ (first_plan t)
     ∙ omega (arith, ints, content_term t one x (h 0 x (omega arith)) (x.nutrient == n), contents_sum t one n (k + 1) xs (λ i d m. h (suc i) d (omega arith)))
 
 -- a quotient rounded up, times the divisor, is not below the dividend
@@ -114,7 +115,7 @@ need_row_holds t one i d h (suc k) e m = absurd (omega arith)
 budget_holds : (t : Tables) → IsOneBasket t → (plan : Plan) (o : Option ℤ) → IfSome o (λ limit. pos 0 ≤ℤ limit) → All (Holds plan) (budget_rows t o)
 budget_holds t one plan None h k e m = absurd (omega arith)
 budget_holds t one plan (Some limit) h zero e m =
-    let nothing : sum_of (negated (cost_terms t)) plan ≡ pos 0 = ap (λ ts. sum_of (negated ts) plan) (costs_nothing t one) in
+    let nothing : sum_of (negation (cost_terms t)) plan ≡ pos 0 = ap (λ ts. sum_of (negation ts) plan) (costs_nothing t one) in
     omega (arith, ints, nothing, h)
 budget_holds t one plan (Some limit) h (suc k) e m = absurd (omega arith)
 
@@ -177,7 +178,7 @@ listed_alone qs z q true e other =
 -- where no shortfall passes its limit the first plan is feasible
 pub first_is_feasible : (t : Tables) → IsOneBasket t → has_first t ≡ true → Feasible t (first_plan t)
 first_is_feasible t one e = record {
-  lists_only = λ q other. listed_alone (names t) (first_value t q) q (list_any (same_quantity q) (names t)) refl other;
+  lists_only = λ q other. listed_alone (quantities t) (first_value t q) q (list_any (same_quantity q) (quantities t)) refl other;
   in_range = subst (All (Within t (first_plan t))) (sym (names_are t one)) (all_within t one e);
   rows_hold = subst (All (Holds (first_plan t))) (sym (rows_are t one)) (all_rows_hold t one);
 }
@@ -194,13 +195,13 @@ shortfalls_sum plan value k (x ∷ xs) h =
     omega (arith, ints, worth, rest)
 
 -- the goal counts the weighted shortfalls of the one month
-goal_is : (t : Tables) → IsOneBasket t → (plan : Plan) → goal_of t plan ≡ sum_of (flat_map (λ x. (Short x.0 1, x.1.weight) ∷ []) (enumerate_from 0 t.needs)) plan
+goal_is : (t : Tables) → IsOneBasket t → (plan : Plan) → objective_of t plan ≡ sum_of (flat_map (λ x. (Short x.0 1, x.1.weight) ∷ []) (enumerate_from 0 t.needs)) plan
 goal_is t one plan =
     ap (λ g. sum_of (goal_terms t g) plan) one.goal
     ∙ ap (λ n. sum_of (over t.needs λ d need. flat_map (λ m. (Short d m, need.weight) ∷ []) (range_with_len 1 n)) plan) one.months
 
 -- the goal of the first plan
-pub first_goal : (t : Tables) → IsOneBasket t → goal_of t (first_plan t) ≡ first_lack t
+pub first_goal : (t : Tables) → IsOneBasket t → objective_of t (first_plan t) ≡ first_lack t
 first_goal t one =
     goal_is t one (first_plan t)
     ∙ shortfalls_sum (first_plan t) (least_short t) 0 t.needs (λ i d h. subst (λ n. first_plan t (Short n 1) ≡ least_short t (get_or t.needs i d)) (sym (zero-add i)) (first_short t one i d h))

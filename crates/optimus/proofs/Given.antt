@@ -14,7 +14,8 @@ use Rattle.opt_model.specs.declared.records.Commodity.{Commodity}
 use Rattle.opt_model.specs.declared.records.Content.{Content}
 use Rattle.opt_model.specs.declared.records.Need.{Need}
 use Rattle.opt_model.proofs.Sums.{sum_over-take_more, sum_over-not_negative, sum_over-at_most}
-use Rattle.optimus.specs.OneBasket.{IsOneBasket, IsCommodity, IsContent, IsFrom}
+use Rattle.optimus.specs.OneBasket.{IsOneBasket}
+use Rattle.opt_tables.specs.Facts.{IsCommodity, IsContent, IsFrom}
 use Rattle.optimus.specs.First.{greatest_grams, given_by, given_of, AddsUp, least_short, limited_short, has_first, weighted, first_lack}
 use Rattle.optimus.proofs.FirstPlan.{of_record_at, short_within, least_short-covers}
 

@@ -1,30 +1,44 @@
 -- What stands after an answer was given whole, in the model's terms.
-use Rattle.std.proofs.Common.{◌≡◌, ◌≢◌, ◌⊎◌, inl, inr, ℕ, ◌≤◌, List, [], Option, Some, None, option_map, Result, Ok, Err, refl, sym, ◌∙◌, ap, arith, append-nil}
+use Rattle.std.proofs.Common.{◌≡◌, ◌≢◌, ◌⊎◌, inl, inr, ℕ, ◌≤◌, Bool, true, false, cond, nat_lt, length, subst, List, [], Option, Some, None, option_map, Result, Ok, Err, refl, sym, ◌∙◌, ap, arith, append-nil}
 use Rattle.opt_base.specs.Answers.{◌>>=◌}
 use Rattle.opt_base.specs.Outside.{Files, written, appended}
 use Rattle.opt_base.specs.declared.refusal.Refusal.{Refusal}
 use Rattle.opt_model.specs.Tables.{Tables}
-use Rattle.opt_model.specs.Limits.{within_limits}
+use Rattle.opt_base.specs.declared.limits.TheConstants.{QUANTITY_LIMIT, ROW_LIMIT, TERM_LIMIT, QUANTITIES_COLUMN, ROWS_COLUMN, TERMS_COLUMN}
+use Rattle.opt_base.specs.Refusals.{too_many}
+use Rattle.opt_base.proofs.Made.{bind_ok, unless_ok}
+use Rattle.opt_model.specs.Quantities.{quantities}
+use Rattle.opt_model.specs.Rows.{rows}
+use Rattle.opt_model.specs.Limits.{within_limits, term_count}
 use Rattle.opt_reply.specs.Answer.{Answer}
 use Rattle.opt_reply.specs.Delivery.{Standing, Faults, Delivers, GivesAll, put_in_order}
 use Rattle.opt_tables.specs.Files.{ModelFiles, files_in}
 use Rattle.opt_tables.specs.Model.{tables_of}
-use Rattle.optimus.specs.OneBasket.{IsOneBasket}
+use Rattle.opt_tables.specs.Facts.{IsModel}
+use Rattle.opt_tables.proofs.ReadModel.{IsModel-read}
+use Rattle.opt_tables.proofs.TableFacts.{ok_same}
 use Rattle.optimus.specs.First.{first_plan}
-use Rattle.optimus.specs.Candidate.{basket_part, limited, verdict_for, file_for}
+use Rattle.optimus.specs.Candidate.{is_basket, limited, verdict_for, file_for}
 use Rattle.optimus.specs.Plan.{model_of, model_in, answer_of, plan_path, status_of, Planned, RefusedModel}
-use Rattle.optimus.proofs.Candidates.{verdict_is_true, file_goes, at_limit, status_of_verdict_for}
-use Rattle.optimus.proofs.Commands.{checked_ok}
-use Rattle.optimus.proofs.ReadModel.{basket_of_tables}
+use Rattle.optimus.proofs.Candidates.{verdict_is_true, file_goes, status_of_verdict_for}
 
 -- a model within the limits is the model itself
-limits_ok : (r : Result Tables Refusal) (t : Tables) → (r >>= limited) ≡ Ok t → r ≡ Ok t
-limits_ok (Ok x) t e = ap Ok (sym (checked_ok (within_limits (basket_part x)) x t e))
-limits_ok (Err f) t e = absurd cc
+within_same : (x t : Tables) → within_limits x ≡ Ok t → x ≡ t
+within_same x t e =
+    let first = unless_ok (nat_lt QUANTITY_LIMIT (length (quantities x))) _ (too_many QUANTITIES_COLUMN (length (quantities x))) t e in
+    let second = unless_ok (nat_lt ROW_LIMIT (length (rows x))) _ (too_many ROWS_COLUMN (length (rows x))) t first.1 in
+    let third = unless_ok (nat_lt TERM_LIMIT (term_count x)) (Ok x) (too_many TERMS_COLUMN (term_count x)) t second.1 in
+    ok_same x t third.1
 
--- the basket of a model that is read is one of one month
-pub basket_of_read_model : (files : ModelFiles) (t : Tables) → model_of files ≡ Ok t → IsOneBasket (basket_part t)
-basket_of_read_model files t e = basket_of_tables files t (limits_ok (tables_of files) t e)
+limited_same : (x t : Tables) (basket : Bool) → cond basket (within_limits x) (Ok x) ≡ Ok t → x ≡ t
+limited_same x t true e = within_same x t e
+limited_same x t false e = ok_same x t e
+
+-- what holds of every model that is read
+model_is : (files : ModelFiles) (t : Tables) → model_of files ≡ Ok t → IsModel t
+model_is files t e =
+    let read = bind_ok (tables_of files) limited t e in
+    subst IsModel (limited_same read.0 t (is_basket read.0) read.2) (IsModel-read files read.0 read.1)
 
 -- nothing appended changes nothing
 nothing_appended : (o : Option (List ℕ)) → option_map (appended []) o ≡ o
@@ -45,7 +59,6 @@ module _ (held : Files) (folder : List ℕ) (status : ℕ) (old new : Standing) 
       → status ≤ 3 → status ≢ 3 → Planned held folder status old new
   planned_by (Err refusal) e told given few other = absurd (other (whole (answer_of folder (Err refusal)) given few).0)
   planned_by (Ok t) e told given few other =
-      let one : IsOneBasket (basket_part t) = basket_of_read_model (files_in held folder) t e in
       let all : (status ≡ status_of (verdict_for t)) × GivesAll (answer_of folder (Ok t)) old new = whole (answer_of folder (Ok t)) given few in
       record {
         model = t;
@@ -55,8 +68,8 @@ module _ (held : Files) (folder : List ℕ) (status : ℕ) (old new : Standing) 
         nodes = 1;
         file = file_for t;
         status_is = all.0;
-        true_of_model = verdict_is_true t one;
-        at_limit = at_limit t one.nodes (verdict_for t);
+        true_of_model = verdict_is_true t (model_is (files_in held folder) t e);
+        one_node = refl;
         file_is = file_goes t;
         files = all.1.files ∙ ap (option_map (written (plan_path folder) (file_for t))) told;
         out = all.1.out;

@@ -1,5 +1,6 @@
 mod OneBasket
 mod BelowZero
+mod NeverBelow
 mod FirstPlan
 mod Candidates
 mod Rounding
@@ -8,8 +9,4 @@ mod PlanFile
 mod Counting
 mod Counts
 mod Commands
-mod ReadCells
-mod ReadLines
-mod ReadRecords
-mod ReadModel
 mod Headline

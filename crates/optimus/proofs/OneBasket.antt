@@ -2,8 +2,8 @@
 use Rattle.std.proofs.Common.{◌≡◌, ℕ, List, [], ◌∷◌, ◌++◌, length, pos, ◌*ℤ◌, refl, ◌∙◌, ap, arith, append-nil}
 use Rattle.std.specs.List.{flat_map, range_with_len}
 use Rattle.opt_model.specs.Tables.{Tables}
-use Rattle.opt_model.specs.Quantities.{over, names, rations, shorts, buys, ships, keeps, feeds, orders}
-use Rattle.opt_model.specs.Rows.{Row, least, rows, nutrient_terms, nutrient_rows, group_rows, handout_rows, balance_rows, arc_rows, storage_rows, throughput_rows, budget_rows, lot_rows, cost_terms}
+use Rattle.opt_model.specs.Quantities.{over, quantities, rations, shorts, buys, ships, keeps, feeds, orders}
+use Rattle.opt_model.specs.Rows.{Row, at_least_row, rows, nutrient_terms, nutrient_rows, group_rows, handout_rows, balance_rows, arc_rows, storage_rows, throughput_rows, budget_rows, lot_rows, cost_terms}
 use Rattle.opt_model.specs.declared.records.Basket.{Basket}
 use Rattle.opt_model.specs.declared.records.Commodity.{Commodity}
 use Rattle.opt_model.specs.declared.records.Need.{Need}
@@ -23,7 +23,7 @@ shorts_in needs = over needs λ d _. Short d 1 ∷ []
 
 -- the row of a need
 abbrev pub need_row : Tables → ℕ → Need → List Row
-need_row t d need = least (row.Nutrient need.basket need.nutrient 1) (nutrient_terms t need.basket need.nutrient 1 ++ (Short d 1, pos 100) ∷ []) (pos 100 *ℤ need.required)
+need_row t d need = at_least_row (row.Nutrient need.basket need.nutrient 1) (nutrient_terms t need.basket need.nutrient 1 ++ (Short d 1, pos 100) ∷ []) (pos 100 *ℤ need.required)
 
 -- rations in a list of one basket and one month
 rations_of_one : (bs : List Basket) (months : ℕ) (cs : List Commodity) → length bs ≡ 1 → months ≡ 1
@@ -40,7 +40,7 @@ pub shorts_are : (t : Tables) → IsOneBasket t → shorts t ≡ shorts_in t.nee
 shorts_are t one = ap (λ n. over t.needs λ d _. flat_map (λ m. Short d m ∷ []) (range_with_len 1 n)) one.months
 
 -- the quantities are the rations and the shortfalls
-pub names_are : (t : Tables) → IsOneBasket t → names t ≡ rations_in t.commodities ++ shorts_in t.needs
+pub names_are : (t : Tables) → IsOneBasket t → quantities t ≡ rations_in t.commodities ++ shorts_in t.needs
 names_are t one =
     let no_buys : buys t ≡ [] = over-none _ t.offers one.offers in
     let no_ships : ships t ≡ [] = over-none _ t.arcs one.arcs in
@@ -51,7 +51,7 @@ names_are t one =
 
 pub nutrient_rows_are : (t : Tables) → IsOneBasket t → nutrient_rows t ≡ over t.needs (need_row t)
 nutrient_rows_are t one =
-    ap (λ n. over t.needs λ d need. flat_map (λ m. least (row.Nutrient need.basket need.nutrient m) (nutrient_terms t need.basket need.nutrient m ++ (Short d m, pos 100) ∷ []) (pos 100 *ℤ need.required)) (range_with_len 1 n)) one.months
+    ap (λ n. over t.needs λ d need. flat_map (λ m. at_least_row (row.Nutrient need.basket need.nutrient m) (nutrient_terms t need.basket need.nutrient m ++ (Short d m, pos 100) ∷ []) (pos 100 *ℤ need.required)) (range_with_len 1 n)) one.months
 
 -- nothing is paid for
 pub costs_nothing : (t : Tables) → IsOneBasket t → cost_terms t ≡ []

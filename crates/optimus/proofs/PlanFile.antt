@@ -11,15 +11,17 @@ use Rattle.std.specs.Ordering.{int_eq}
 use Rattle.csv.specs.Writing.{row_text, default_writer}
 use Rattle.opt_base.specs.declared.refusal.File.TheVariants as file
 use Rattle.opt_model.specs.Tables.{Tables}
-use Rattle.opt_model.specs.Quantities.{names, given, step_of, most_steps}
-use Rattle.opt_model.specs.Texts.{plan_text, plan_records, plan_fields, name_at, column_names}
+use Rattle.opt_model.specs.Quantities.{quantities, list_if, step_of, most_steps}
+use Rattle.opt_model.specs.Columns.{column_names}
+use Rattle.opt_model.specs.Texts.{plan_text, plan_records, plan_fields, record_name}
 use Rattle.opt_model.specs.declared.records.Commodity.{Commodity}
 use Rattle.opt_model.specs.declared.records.Need.{Need}
 use Rattle.opt_model.specs.declared.records.Nutrient.{Nutrient}
 use Rattle.opt_model.specs.declared.quantity.Quantity.{Quantity}
 use Rattle.opt_model.specs.declared.quantity.Quantity.TheVariants.{Ration, Short}
 use Rattle.opt_sums.proofs.Ring.{mul_le}
-use Rattle.optimus.specs.OneBasket.{IsOneBasket, IsCommodity, IsNeedOf}
+use Rattle.optimus.specs.OneBasket.{IsOneBasket}
+use Rattle.opt_tables.specs.Facts.{IsCommodity, IsNeedOf}
 use Rattle.optimus.specs.First.{greatest_grams, first_plan, least_short}
 use Rattle.optimus.specs.PlanFile.{record_of, ration_record, short_record, ration_records, short_records}
 use Rattle.optimus.proofs.OneBasket.{rations_in, shorts_in, names_are}
@@ -90,35 +92,35 @@ zero_grams r is =
 
 -- the record of a ration that is there
 ration_text : (t : Tables) → IsOneBasket t → (i : ℕ) (d : Commodity) → i < length t.commodities
-    → given (not (int_eq (first_plan t (Ration 0 i 1)) (pos 0))) (row_text default_writer (plan_fields t (first_plan t) (Ration 0 i 1))) ≡ ration_record (get_or t.commodities i d)
+    → list_if (not (int_eq (first_plan t (Ration 0 i 1)) (pos 0))) (row_text default_writer (plan_fields t (first_plan t) (Ration 0 i 1))) ≡ ration_record (get_or t.commodities i d)
 ration_text t one i d h =
     let steps : first_plan t (Ration 0 i 1) ≡ most_steps (get_or t.commodities i d) = first_ration t one i d h in
     let step : step_of t i ≡ (get_or t.commodities i d).step_g = of_record_at t.commodities i d (λ x. x.step_g) h in
-    let name : name_at t.commodities i (λ r. r.commodity) ≡ (get_or t.commodities i d).commodity = at_place t.commodities i d (λ r. r.commodity) [] h in
+    let name : record_name t.commodities i (λ r. r.commodity) ≡ (get_or t.commodities i d).commodity = at_place t.commodities i d (λ r. r.commodity) [] h in
     let none : int_eq (most_steps (get_or t.commodities i d)) (pos 0) ≡ int_eq (greatest_grams (get_or t.commodities i d)) (pos 0) = zero_grams (get_or t.commodities i d) (one.commodities i d h) in
     rw (one.format, steps, step, name, none) refl
 
 -- the record of a shortfall that is there
 short_text : (t : Tables) → IsOneBasket t → (i : ℕ) (d : Nutrient × ℤ) → i < length t.needs
-    → given (not (int_eq (first_plan t (Short i 1)) (pos 0))) (row_text default_writer (plan_fields t (first_plan t) (Short i 1)))
+    → list_if (not (int_eq (first_plan t (Short i 1)) (pos 0))) (row_text default_writer (plan_fields t (first_plan t) (Short i 1)))
     ≡ short_record (get_or (zip t.nutrients (map (least_short t) t.needs)) i d)
 short_text t one i d h =
     let e : Need = record { basket = 0; nutrient = 0; required = pos 0; max_short = pos 0; weight = pos 0 } in
     let need : Need = get_or t.needs i e in
     let of_need : IsNeedOf i need = one.in_order i e h in
     let value : first_plan t (Short i 1) ≡ least_short t need = first_short t one i e h in
-    let name : name_at t.needs i (λ r. name_at t.nutrients r.nutrient (λ n. n.nutrient)) ≡ (get_or t.nutrients i d.0).nutrient =
-    at_place t.needs i e (λ r. name_at t.nutrients r.nutrient (λ n. n.nutrient)) [] h
-    ∙ (ap (λ k. name_at t.nutrients k (λ n. n.nutrient)) of_need.nutrient ∙ at_place t.nutrients i d.0 (λ n. n.nutrient) [] (omega (arith, one.a_need_each))) in
+    let name : record_name t.needs i (λ r. record_name t.nutrients r.nutrient (λ n. n.nutrient)) ≡ (get_or t.nutrients i d.0).nutrient =
+    at_place t.needs i e (λ r. record_name t.nutrients r.nutrient (λ n. n.nutrient)) [] h
+    ∙ (ap (λ k. record_name t.nutrients k (λ n. n.nutrient)) of_need.nutrient ∙ at_place t.nutrients i d.0 (λ n. n.nutrient) [] (omega (arith, one.a_need_each))) in
     let here : get_or (zip t.nutrients (map (least_short t) t.needs)) i d ≡ (get_or t.nutrients i d.0, least_short t need) =
     get_or-zip t.nutrients (map (least_short t) t.needs) i d (omega (arith, one.a_need_each)) (omega (arith, length-map t.needs (least_short t)))
     ∙ ap (λ z. (get_or t.nutrients i d.0, z)) (get_or-map_at (least_short t) t.needs i e d.1 h) in
     rw (one.format, value, name, here) refl
 
 -- the records are those of the rations and the shortfalls
-records_are : (t : Tables) → IsOneBasket t → plan_records t (first_plan t) (names t) ≡ ration_records t.commodities ++ short_records t.nutrients (map (least_short t) t.needs)
+records_are : (t : Tables) → IsOneBasket t → plan_records t (first_plan t) (quantities t) ≡ ration_records t.commodities ++ short_records t.nutrients (map (least_short t) t.needs)
 records_are t one =
-    let text : Quantity → List ℕ = λ q. given (not (int_eq (first_plan t q) (pos 0))) (row_text default_writer (plan_fields t (first_plan t) q)) in
+    let text : Quantity → List ℕ = λ q. list_if (not (int_eq (first_plan t q) (pos 0))) (row_text default_writer (plan_fields t (first_plan t) q)) in
     let pairs : List (Nutrient × ℤ) = zip t.nutrients (map (least_short t) t.needs) in
     let long : length t.needs ≡ length pairs = omega (arith, one.a_need_each, length-map t.needs (least_short t), length-zip t.nutrients (map (least_short t) t.needs)) in
     let of_rations : flat_map text (rations_in t.commodities) ≡ ration_records t.commodities =
@@ -140,4 +142,4 @@ plan_text_is t one shorts empty header rations whole s a b c d =
     d ∙ (ap (λ xs. rations ++ short_records t.nutrients xs) s
     ∙ (ap (λ xs. xs ++ short_records t.nutrients (map (least_short t) t.needs)) c
     ∙ (append_assoc header (ration_records t.commodities) (short_records t.nutrients (map (least_short t) t.needs))
-    ∙ (ap (λ xs. header ++ xs) (sym (records_are t one)) ∙ ap (λ xs. xs ++ plan_records t (first_plan t) (names t)) start))))
+    ∙ (ap (λ xs. header ++ xs) (sym (records_are t one)) ∙ ap (λ xs. xs ++ plan_records t (first_plan t) (quantities t)) start))))

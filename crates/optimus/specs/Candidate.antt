@@ -1,25 +1,31 @@
--- Until the network is built a model has a candidate plan only where its six optional tables have no record, and its counts are those of its basket.
-use Rattle.std.specs.Prelude.{ℕ, Bool, ◌&&◌, ◌==◌, List, [], length, Result, Ok, if◌then◌else◌}
-use Rattle.opt_base.specs.Answers.{◌>>=◌}
+-- Until the network is planned a model has a candidate plan only where it is a basket of one month.
+use Rattle.std.specs.Prelude.{ℕ, Bool, true, false, ◌&&◌, ◌==◌, List, [], length, Result, Ok, if◌then◌else◌}
 use Rattle.opt_base.specs.declared.refusal.Refusal.{Refusal}
 use Rattle.opt_model.specs.Tables.{Tables}
 use Rattle.opt_model.specs.Limits.{within_limits}
-use Rattle.opt_model.specs.declared.verdict.Verdict.{Verdict}
+use Rattle.opt_model.specs.declared.records.Goal.{Goal}
+use Rattle.opt_model.specs.declared.records.Goal.TheVariants.{Cost, Shortfall}
+use Rattle.opt_base.specs.declared.verdict.Verdict.{Verdict}
 use Rattle.optimus.specs.First.{none_known, first_verdict, first_file}
 
--- the model without its groups, places, offers, arcs, persons and stock
-abbrev pub basket_part : Tables → Tables
-basket_part t = record t { groups = []; places = []; offers = []; arcs = []; persons = []; stock = [] }
+-- whether the objective is the weighted shortfall
+abbrev pub is_shortfall : Goal → Bool
+is_shortfall Cost = false
+is_shortfall Shortfall = true
 
--- whether none of these tables has a record
-abbrev pub is_basket : Tables → Bool
-is_basket t =
+-- whether none of the tables of groups and of the network has a record
+abbrev pub has_no_network : Tables → Bool
+has_no_network t =
     (length t.groups == 0)
     && ((length t.places == 0) && ((length t.offers == 0) && ((length t.arcs == 0) && ((length t.persons == 0) && (length t.stock == 0)))))
 
--- the model, or the first of its basket's counts that is past its limit
+-- whether a model is a basket of one month of format 1, with the shortfall as its goal
+abbrev pub is_basket : Tables → Bool
+is_basket t = (t.settings.format == 1) && ((t.settings.months == 1) && (is_shortfall t.settings.goal && has_no_network t))
+
+-- the model, or the first count of a basket that is past its limit
 abbrev pub limited : Tables → Result Tables Refusal
-limited t = within_limits (basket_part t) >>= λ part. Ok t
+limited t = if is_basket t then within_limits t else Ok t
 
 -- what is said of a model, with the bound 0: the first plan, or that no plan is known
 abbrev pub verdict_for : Tables → Verdict

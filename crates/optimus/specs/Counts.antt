@@ -1,7 +1,7 @@
 -- Whether the counts of a model of the first form are within their limits.
 use Rattle.std.specs.Prelude.{ℕ, nat_lt, Option, Some, None, Result, Ok, Err, if◌then◌else◌}
 use Rattle.opt_base.specs.declared.refusal.Refusal.{Refusal}
-use Rattle.opt_model.specs.Limits.{too_many}
+use Rattle.opt_base.specs.Refusals.{too_many}
 
 -- the value, unless there is a refusal
 abbrev pub ok_unless : {A : Type 0} → A → Option Refusal → Result A Refusal

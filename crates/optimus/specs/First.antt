@@ -3,14 +3,14 @@ use Rattle.std.specs.Prelude.{◌≡◌, ◌<◌, length, take, slice_index_or, 
 use Rattle.std.specs.List.{list_all, list_any}
 use Rattle.std.specs.Int.{int_max}
 use Rattle.opt_model.specs.Tables.{Tables}
-use Rattle.opt_model.specs.Quantities.{names, high, same_quantity, sum_over, of_record, most_steps, ceil_div}
+use Rattle.opt_model.specs.Quantities.{quantities, high, same_quantity, sum_over, of_record, most_steps, ceil_div}
 use Rattle.opt_model.specs.Plans.{Plan}
 use Rattle.opt_model.specs.Texts.{plan_text}
 use Rattle.opt_model.specs.declared.records.Commodity.{Commodity}
 use Rattle.opt_model.specs.declared.records.Content.{Content}
 use Rattle.opt_model.specs.declared.records.Need.{Need}
-use Rattle.opt_model.specs.declared.verdict.Verdict.{Verdict}
-use Rattle.opt_model.specs.declared.verdict.Verdict.TheVariants as verdict
+use Rattle.opt_base.specs.declared.verdict.Verdict.{Verdict}
+use Rattle.opt_base.specs.declared.verdict.Verdict.TheVariants as verdict
 use Rattle.opt_model.specs.declared.quantity.Quantity.{Quantity}
 use Rattle.opt_model.specs.declared.quantity.Quantity.TheVariants.{Short}
 
@@ -49,7 +49,7 @@ first_value t q = high t q
 
 -- the plan of these values
 abbrev pub first_plan : Tables → Plan
-first_plan t q = cond (list_any (same_quantity q) (names t)) (first_value t q) (pos 0)
+first_plan t q = cond (list_any (same_quantity q) (quantities t)) (first_value t q) (pos 0)
 
 -- no shortfall passes its limit, so that the plan may be feasible
 abbrev pub has_first : Tables → Bool

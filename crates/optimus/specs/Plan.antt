@@ -5,10 +5,10 @@ use Rattle.opt_base.specs.Outside.{Files, written, appended}
 use Rattle.opt_base.specs.declared.refusal.Refusal.{Refusal}
 use Rattle.opt_model.specs.Tables.{Tables}
 use Rattle.opt_model.specs.Plans.{Plan}
-use Rattle.opt_model.specs.Verdicts.{IsTrueVerdict, node_limit}
-use Rattle.opt_model.specs.Texts.{plan_text, verdict_line, refusal_line}
-use Rattle.opt_model.specs.declared.verdict.Verdict.{Verdict}
-use Rattle.opt_model.specs.declared.verdict.Verdict.TheVariants as verdict
+use Rattle.opt_model.specs.Verdicts.{IsTrueVerdict}
+use Rattle.opt_model.specs.Texts.{plan_text, outcome_line, refusal_line}
+use Rattle.opt_base.specs.declared.verdict.Verdict.{Verdict}
+use Rattle.opt_base.specs.declared.verdict.Verdict.TheVariants as verdict
 use Rattle.opt_reply.specs.Answer.{Answer}
 use Rattle.opt_reply.specs.Delivery.{Standing, Faults, Delivers}
 use Rattle.opt_tables.specs.Files.{ModelFiles, files_in}
@@ -35,7 +35,7 @@ status_of (verdict.Unfinished bound best) = 2
 
 -- the answer of a verdict with one node and a plan file
 abbrev pub verdict_answer : List ℕ → Verdict → List ℕ → Answer
-verdict_answer folder v file = record { status = status_of v; puts = (plan_path folder, file) ∷ []; printed = verdict_line v 1; refused = [] }
+verdict_answer folder v file = record { status = status_of v; puts = (plan_path folder, file) ∷ []; printed = outcome_line v 1; refused = [] }
 
 -- the answer to a refusal of the model
 abbrev pub refused_answer : Refusal → Answer
@@ -60,14 +60,8 @@ IsPlanFile t verdict.NoPlan plan bytes = bytes ≡ []
 IsPlanFile t (verdict.Unfinished bound None) plan bytes = bytes ≡ []
 IsPlanFile t (verdict.Unfinished bound (Some best)) plan bytes = bytes ≡ plan_text t plan
 
--- a search that stops has no node left: with two more it would pass the limit
-abbrev pub IsAtLimit : Tables → Verdict → ℕ → Type 0
-IsAtLimit t (verdict.Plan objective bound) nodes = Unit {0}
-IsAtLimit t verdict.NoPlan nodes = Unit {0}
-IsAtLimit t (verdict.Unfinished bound best) nodes = node_limit t < nodes + 2
-
--- what stands after `plan` ended with a verdict: the verdict is true of the folder's model, its plan is in the plan file, its line is
--- appended to out, and nothing else has changed
+-- what stands after `plan` ended with a verdict: the verdict is true of the folder's model, its plan is in the plan file, its line,
+-- with one node whatever the limit, is appended to out, and nothing else has changed
 pub record Planned (held : Files) (folder : List ℕ) (status : ℕ) (old new : Standing) : Type 0 where
   pub model : Tables
   pub model_is : model_in held folder ≡ Ok model
@@ -77,10 +71,10 @@ pub record Planned (held : Files) (folder : List ℕ) (status : ℕ) (old new : 
   pub file : List ℕ
   pub status_is : status ≡ status_of verdict
   pub true_of_model : IsTrueVerdict model verdict plan
-  pub at_limit : IsAtLimit model verdict nodes
+  pub one_node : nodes ≡ 1
   pub file_is : IsPlanFile model verdict plan file
   pub files : new.files ≡ Some (written (plan_path folder) file held)
-  pub out : new.out ≡ option_map (appended (verdict_line verdict nodes)) old.out
+  pub out : new.out ≡ option_map (appended (outcome_line verdict nodes)) old.out
   pub err : new.err ≡ old.err
 
 -- what stands after a refusal of the model: its line is appended to err, and nothing else has changed

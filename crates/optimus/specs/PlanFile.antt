@@ -4,7 +4,7 @@ use Rattle.std.specs.List.{flat_map}
 use Rattle.std.specs.Ordering.{int_eq}
 use Rattle.std.specs.Fmt.{decimal, signed_decimal}
 use Rattle.csv.specs.Writing.{row_text, default_writer}
-use Rattle.opt_model.specs.Quantities.{given}
+use Rattle.opt_model.specs.Quantities.{list_if}
 use Rattle.opt_model.specs.declared.records.Commodity.{Commodity}
 use Rattle.opt_model.specs.declared.records.Nutrient.{Nutrient}
 use Rattle.optimus.specs.First.{greatest_grams}
@@ -15,7 +15,7 @@ month_record word name amount = row_text default_writer (word ∷ name ∷ [] �
 
 -- the same for an amount other than 0, else nothing
 abbrev pub record_of : List ℕ → List ℕ → ℤ → List ℕ
-record_of word name amount = given (not (int_eq amount (pos 0))) (month_record word name (signed_decimal amount))
+record_of word name amount = list_if (not (int_eq amount (pos 0))) (month_record word name (signed_decimal amount))
 
 -- the record of a commodity's greatest ration, in grams
 abbrev pub ration_record : Commodity → List ℕ

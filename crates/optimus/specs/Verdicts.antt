@@ -1,7 +1,7 @@
 -- The numbers of a verdict.
 use Rattle.std.specs.Prelude.{◌^◌, ℤ, pos, ◌≤ℤ◌}
-use Rattle.opt_model.specs.declared.verdict.Verdict.{Verdict}
-use Rattle.opt_model.specs.declared.verdict.Verdict.TheVariants as verdict
+use Rattle.opt_base.specs.declared.verdict.Verdict.{Verdict}
+use Rattle.opt_base.specs.declared.verdict.Verdict.TheVariants as verdict
 
 -- from 0 to 2 ^ 126
 pub record IsAmount (z : ℤ) : Type 0 where

@@ -2,7 +2,8 @@
 ghost use Rattle.std.specs.Prelude.{◌≡◌, ℕ, ◌*◌, ◌+◌, ◌<◌, ◌≤◌, ◌^◌, ◌≤ℤ◌, ◌<ℤ◌, ◌+ℤ◌, ◌*ℤ◌, ◌-ℤ◌, pos, length, slice_index_or, slice_set, IfOk, option_map, map, true};
 ghost use Rattle.std.specs.Int.{int_max};
 ghost use Rattle.opt_model.specs.Quantities.{ceil_div, of_record, sum_over};
-ghost use Rattle.optimus.specs.OneBasket.{IsCommodity, IsContent, IsNeed, IsFrom, IsOneBasket};
+ghost use Rattle.optimus.specs.OneBasket.{IsOneBasket};
+ghost use Rattle.opt_tables.specs.Facts.{IsCommodity, IsContent, IsNeed, IsFrom};
 ghost use Rattle.optimus.specs.First.{greatest_grams, given_of, given_by, least_short_beside, least_short, first_shorts, first_lack, has_first, short_if_within, limited_short, AddsUp};
 
 use opt_sums::product;

@@ -1,15 +1,15 @@
-ghost use Rattle.std.specs.Prelude.{◌≡◌, IfOk, string_bytes, map};
-ghost use Rattle.opt_model.specs.Texts.{verdict_line, best_text, column_names, column_name, kind_text, record_text, column_text, refusal_line};
+ghost use Rattle.std.specs.Prelude.{◌≡◌, IfOk, string_bytes};
+ghost use Rattle.opt_model.specs.Texts.{outcome_line, best_text, kind_text, record_text, column_text, refusal_line};
 ghost use Rattle.optimus.specs.Verdicts.{HasNumbers};
 
 use opt_base::{File, Kind, Refusal};
-use opt_model::{Verdict, file_name};
+use opt_model::{Verdict, column_name, file_name};
 use std::alloc::{AllocError, Global};
 
 /// The line of a verdict, with the number of nodes.
 pub fn line_of_verdict(alloc: Global, verdict: &Verdict, nodes: u32) -> Result<String, AllocError>
     requires { HasNumbers verdict.now }
-    ensures { IfOk result (λ text. string_bytes text ≡ verdict_line verdict.now nodes) }
+    ensures { IfOk result (λ text. string_bytes text ≡ outcome_line verdict.now nodes) }
 {
     match *verdict {
         Verdict::Plan { objective, bound } => {
@@ -31,57 +31,6 @@ fn text_of_best(alloc: Global, best: Option<i128>) -> Result<String, AllocError>
     match best {
         Some(best) => format!(in alloc; "{best}"),
         None => format!(in alloc; "none"),
-    }
-}
-
-/// The names of a file's columns or keys, in the order of their numbers.
-fn columns_of_file(file: File) -> &'static [&'static str]
-    ensures { map (λ name. name.now) result.now ≡ column_names file }
-{
-    match file {
-        File::Settings => &["format", "months", "days", "goal", "gap", "nodes", "budget"],
-        File::Commodities => &["commodity", "group", "min_g", "max_g", "step_g"],
-        File::Groups => &["group", "min_g", "max_g"],
-        File::Nutrients => &["nutrient", "required", "max_short", "weight"],
-        File::Contents => &["commodity", "nutrient", "per_100g"],
-        File::Places => &[
-            "place",
-            "kind",
-            "storage",
-            "throughput",
-            "handling",
-            "storage_cost",
-        ],
-        File::Offers => &[
-            "offer",
-            "place",
-            "commodity",
-            "price",
-            "max_kg",
-            "first",
-            "last",
-            "fee",
-            "least",
-        ],
-        File::Arcs => &["arc", "from", "to", "cost", "capacity", "lead"],
-        File::Persons => &["place", "month", "persons", "basket"],
-        File::Stock => &["place", "commodity", "month", "kg"],
-        File::Baskets => &["basket"],
-        File::Needs => &["basket", "nutrient", "required", "max_short", "weight"],
-        File::Model => &["quantities", "rows", "terms"],
-        File::Plan | File::Executed => &["quantity", "name", "commodity", "month", "amount"],
-        File::Certificate => &[],
-        File::Edits => &["file", "record", "column", "value"],
-    }
-}
-
-/// The name of a column or key, numbered from 1.
-fn name_of_column(file: File, column: u8) -> &'static str
-    ensures { result.now ≡ column_name file column }
-{
-    match columns_of_file(file).get((column as usize).saturating_sub(1)) {
-        Some(name) => name,
-        None => "",
     }
 }
 
@@ -131,7 +80,7 @@ fn text_of_column(alloc: Global, file: File, column: u8) -> Result<String, Alloc
     if column == 0 {
         "".to_string(alloc)
     } else {
-        let name = name_of_column(file, column);
+        let name = column_name(file, column);
         format!(in alloc; " column {name}")
     }
 }

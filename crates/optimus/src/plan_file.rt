@@ -2,8 +2,10 @@
 ghost use Rattle.std.specs.Prelude.{◌≡◌, ◌++◌, map, IfOk, OnOk, All};
 ghost use Rattle.csv.specs.Writing.{row_text, default_writer};
 ghost use Rattle.opt_base.specs.declared.refusal.File.TheVariants as file;
-ghost use Rattle.opt_model.specs.Texts.{plan_text, column_names};
-ghost use Rattle.optimus.specs.OneBasket.{IsCommodity, IsOneBasket};
+ghost use Rattle.opt_model.specs.Columns.{column_names};
+ghost use Rattle.opt_model.specs.Texts.{plan_text};
+ghost use Rattle.optimus.specs.OneBasket.{IsOneBasket};
+ghost use Rattle.opt_tables.specs.Facts.{IsCommodity};
 ghost use Rattle.optimus.specs.First.{first_plan, least_short};
 ghost use Rattle.optimus.specs.PlanFile.{month_record, record_of, ration_records, short_records};
 

@@ -1,8 +1,8 @@
 //! What `plan` answers with, computed whole before anything is put.
-ghost use Rattle.std.specs.Prelude.{◌≡◌, IfOk, Ok, [], map, true};
+ghost use Rattle.std.specs.Prelude.{◌≡◌, IfOk, [], map, true};
 ghost use Rattle.optimus.specs.OneBasket.{IsOneBasket};
 ghost use Rattle.optimus.specs.First.{first_file, first_verdict, has_first, least_short, none_known};
-ghost use Rattle.optimus.specs.Candidate.{basket_part, limited};
+ghost use Rattle.optimus.specs.Candidate.{is_basket, limited};
 ghost use Rattle.optimus.specs.Verdicts.{HasNumbers};
 ghost use Rattle.optimus.specs.Plan.{answer_of, model_of, refused_answer, status_of, verdict_answer};
 
@@ -106,7 +106,7 @@ fn reply_without_plan(alloc: Global, folder: &str) -> Result<Reply, OutOfMemory>
 }
 
 /// The answer to a basket that is within the limits.
-fn reply_to_basket(alloc: Global, folder: &str, tables: &Tables) -> Result<Reply, OutOfMemory>
+fn reply_with_first(alloc: Global, folder: &str, tables: &Tables) -> Result<Reply, OutOfMemory>
     requires { IsOneBasket tables.now }
     ensures { IfOk result (λ reply. reply ≡ verdict_answer folder.now (first_verdict tables.now) (first_file tables.now)) }
 {
@@ -116,27 +116,26 @@ fn reply_to_basket(alloc: Global, folder: &str, tables: &Tables) -> Result<Reply
     }
 }
 
-/// The answer to a model that is within the limits.
-#[tactic(auto, using(crate::proofs::Candidates::basket_is_one))]
-fn reply_to_model(alloc: Global, folder: &str, tables: &Tables) -> Result<Reply, OutOfMemory>
-    requires { IsOneBasket (basket_part tables.now) }
-    ensures { IfOk result (λ reply. reply ≡ answer_of folder.now (Ok tables.now)) }
+/// The answer to a basket, which is refused where one of its counts is past its limit.
+fn reply_to_basket(alloc: Global, folder: &str, tables: &Tables) -> Result<Reply, OutOfMemory>
+    requires one { IsOneBasket tables.now }
+    requires basket { is_basket tables.now ≡ true }
+    ensures { IfOk result (λ reply. reply ≡ answer_of folder.now (limited tables.now)) }
+{
+    match refused_count(tables) {
+        Some(refusal) => reply_to_refusal(alloc, &refusal),
+        None => reply_with_first(alloc, folder, tables),
+    }
+}
+
+/// The answer to a model that is read.
+fn reply_to_tables(alloc: Global, folder: &str, tables: &Tables) -> Result<Reply, OutOfMemory>
+    ensures { IfOk result (λ reply. reply ≡ answer_of folder.now (limited tables.now)) }
 {
     if is_basket(tables) {
         reply_to_basket(alloc, folder, tables)
     } else {
         reply_without_plan(alloc, folder)
-    }
-}
-
-/// The answer to a model that is read, which is refused where one of its counts is past its limit.
-fn reply_to_tables(alloc: Global, folder: &str, tables: &Tables) -> Result<Reply, OutOfMemory>
-    requires { IsOneBasket (basket_part tables.now) }
-    ensures { IfOk result (λ reply. reply ≡ answer_of folder.now (limited tables.now)) }
-{
-    match refused_count(tables) {
-        Some(refusal) => reply_to_refusal(alloc, &refusal),
-        None => reply_to_model(alloc, folder, tables),
     }
 }
 

@@ -224,9 +224,9 @@ fn files_and_settings_come_first(rt: HostRuntime) {
         File::Settings,
         b"format = 1\nmonths = 1\ndays = [30]\ngap = 0\nnodes = 1\n",
     );
-    let cost = Held(
+    let money = Held(
         File::Settings,
-        b"format = 1\nmonths = 1\ndays = [30]\ngoal = \"cost\"\ngap = 0\nnodes = 1\n",
+        b"format = 1\nmonths = 1\ndays = [30]\ngoal = \"money\"\ngap = 0\nnodes = 1\n",
     );
     let commodities = Held(File::Commodities, b"\xff");
     let refused = refusal(File::Settings, 0, 0, Kind::TomlRefused);
@@ -239,7 +239,7 @@ fn files_and_settings_come_first(rt: HostRuntime) {
     assert_eq!(rt; fault_of(alloc, &NETWORK, &[goal]), missing);
     assert_eq!(rt; fault_of(alloc, &NETWORK, &[goal, commodities]), missing);
     let range = refusal(File::Settings, 0, 4, Kind::SettingRange);
-    assert_eq!(rt; fault_of(alloc, &NETWORK, &[cost, commodities]), range);
+    assert_eq!(rt; fault_of(alloc, &NETWORK, &[money, commodities]), range);
     // The first three files alone: contents are missing.
     let file = refusal(File::Contents, 0, 0, Kind::MissingFile);
     assert_eq!(rt;

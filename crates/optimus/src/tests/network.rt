@@ -295,7 +295,7 @@ const REFUSED: [Refused<'static>; 13] = [
     Refused(
         Change {
             path: "d/settings.toml",
-            text: "format = 1\nmonths = 1\ndays = [30]\ngoal = \"cost\"\ngap = 0\nnodes = 1\n",
+            text: "format = 1\nmonths = 1\ndays = [30]\ngoal = \"money\"\ngap = 0\nnodes = 1\n",
         },
         "refused settings.toml column goal: SettingRange\n",
     ),

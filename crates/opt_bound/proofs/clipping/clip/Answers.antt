@@ -1,15 +1,16 @@
-use Rattle.std.proofs.Common.{◌≡◌, sym, ◌∙◌, pos, ◌<ℤ◌, FitsSigned, arith}
+use Rattle.std.proofs.Common.{◌≡◌, sym, ◌∙◌, pos, ◌<ℤ◌, IfOk, FitsSigned, arith}
 use Rattle.std.proofs.lemmas.Int.{ints, to_z-of_z}
 use Rattle.std.proofs.lemmas.Result.{IfOk-weaker}
 use mir.Syntax.{w64, w128}
 use Rattle.opt_bound.specs.Multipliers.{Multipliers}
-use Rattle.opt_bound.specs.Clip.{cut, cut_entries, IsShift, IsClip}
+use Rattle.opt_bound.specs.Clip.{cut, cut_entries, IsShift, IsClip, KeepsAdmissible}
 use Rattle.opt_bound.proofs.ClipLemmas.{IsShift-largest, IsProper-cut, clip_lost, clip_kept}
+use Rattle.opt_bound.proofs.ClipLaws.{clip_admissible}
 use Rattle.opt_bound.proofs.clipping.clip.Goals as goal
 use Rattle.opt_bound.proofs.clipping.clip.Goals.{else-q-gt0-via-then-q-gt0+else-objective-eq0, else-q-gt0-via-else-q-gt0}
 
-pub returns-then-objective-eq0 : goal.returns-then-objective-eq0
-returns-then-objective-eq0 c =
+pub returns-then-objective-eq0-clause-clip : goal.returns-then-objective-eq0-clause-clip
+returns-then-objective-eq0-clause-clip c =
     let q : FitsSigned w128 c.args.q = c.ranges.q in
     let value : c.cut-objective.result ≡ cut c.args.q c.shift_of-shift.result = simp to_z-of_z at c.cut-objective.ensures in
     let gone : c.cut-objective.result ≡ pos 0 = omega (arith, ints, c.if-objective-eq0.true) in
@@ -47,8 +48,8 @@ not_lost c lost =
       | else-q-gt0-via-else-q-gt0 w ↦ absurd (omega (arith, ints, above, w.if-q-gt0.false))
     ]
 
-pub returns : goal.returns
-returns c =
+is_clip : (c : goal.After-drop-kept) → IfOk c.new.result (IsClip c.args.q c.args.entries.now)
+is_clip c =
     let q : FitsSigned w128 c.args.q = c.ranges.q in
     let value : c.cut-objective.result ≡ cut c.args.q c.shift_of-shift.result = simp to_z-of_z at c.cut-objective.ensures in
     let shift : IsShift c.args.q c.args.entries.now c.shift_of-shift.result =
@@ -58,3 +59,12 @@ returns c =
     IfOk-weaker c.new.result (λ m. m ≡ made) (IsClip c.args.q c.args.entries.now)
     (λ m is. clip_kept c.args.q c.args.entries.now c.shift_of-shift.result m shift (not_lost c) is)
     (rw (to_z-of_z w64 c.cut-objective.result (record { sfits = c.cut-objective.type_inv }), value, c.deref.ensures.value, c.in_ok-kept.ensures) at c.new.ensures)
+
+pub returns-clause-clip : goal.returns-clause-clip
+returns-clause-clip c = is_clip c
+
+pub returns-clause-admissible : goal.returns-clause-admissible
+returns-clause-admissible c =
+    IfOk-weaker c.new.result (IsClip c.args.q c.args.entries.now) (KeepsAdmissible c.args.entries.now)
+    (λ m clip p all. clip_admissible p c.args.q c.args.entries.now m all clip)
+    (is_clip c)

@@ -12,5 +12,5 @@ returns-in-Ok c =
 pub returns-in-Err : goal.returns-in-Err
 returns-in-Err c = elim (cases_Bool (is_utf8 c.args.bytes.now)) [
   | inl text ↦ absurd (c.in-Err.ensures.cases.0 (IsUtf8-from_is_utf8 _ text))
-  | inr other ↦ rw (other, c.refusal.ensures)
+  | inr other ↦ rw (other, c.of_file.ensures)
 ]

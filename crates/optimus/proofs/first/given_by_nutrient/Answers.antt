@@ -3,7 +3,7 @@ use Rattle.std.proofs.Common.{◌+◌, ◌<◌, length, get_or, pos, ap, arith, 
 use Rattle.std.specs.Int.{w128}
 use Rattle.std.proofs.lemmas.Int.{ints}
 use Rattle.opt_model.specs.declared.records.Content.{Content}
-use Rattle.optimus.specs.OneBasket.{IsContent, IsCommodity}
+use Rattle.opt_tables.specs.Facts.{IsContent, IsCommodity}
 use Rattle.optimus.specs.First.{greatest_grams, AddsUp}
 use Rattle.optimus.proofs.Given.{AddsUp-within, AddsUp-more, share_within}
 use Rattle.optimus.proofs.first.given_by_nutrient.Goals as goal

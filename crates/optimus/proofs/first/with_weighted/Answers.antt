@@ -2,7 +2,7 @@
 use Rattle.std.proofs.Common.{◌≡◌, pos, arith, ◌^◌, ◌*ℤ◌, ◌≤ℤ◌, rules, w64}
 use Rattle.std.proofs.lemmas.Int.{ints, to_z-of_z}
 use mir.Val.{SFits}
-use Rattle.optimus.specs.OneBasket.{IsFrom}
+use Rattle.opt_tables.specs.Facts.{IsFrom}
 use Rattle.optimus.proofs.Given.{weight_within}
 use Rattle.optimus.proofs.first.with_weighted.Goals as goal
 

@@ -1,6 +1,6 @@
 use Rattle.std.proofs.Common.{ℕ, ◌<◌}
 use Rattle.opt_system.specs.Rows.{Holds}
-use Rattle.opt_system.specs.Problem.{row_at}
+use Rattle.opt_system.specs.Systems.{row_at}
 use Rattle.opt_system.proofs.system.System.first_broken.Given as goal
 
 abbrev pub invariant-loop-i : goal.invariant-loop-i

@@ -7,6 +7,6 @@ use Rattle.opt_tables.proofs.lines.Lines.read_all.Given as goal
 abbrev pub invariant-loop-i : goal.invariant-loop-i
 invariant-loop-i g l =
     record {
-      whole : each (with_record (g.L.Line.line_of l.months) g.L.Line.key_of l.file) (l.i + 1) l.lines (drop l.i l.cells) ≡ lines_of (g.L.Line.line_of l.months) g.L.Line.key_of l.file l.cells;
+      whole : each (with_record (g.L.Line.line_of l.setup) (g.L.Line.key_of l.setup) l.file) (l.i + 1) l.lines (drop l.i l.cells) ≡ lines_of (g.L.Line.line_of l.setup) (g.L.Line.key_of l.setup) l.file l.cells;
       count : length l.lines.keys ≡ l.i;
     }
