@@ -1,0 +1,4 @@
+pub mod Open
+pub mod Guided
+pub mod State
+pub mod Outcomes
