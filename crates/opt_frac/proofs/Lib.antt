@@ -1,0 +1,17 @@
+pub mod Examples
+pub mod NumberLemmas
+pub mod DivisorLemmas
+pub mod FitLemmas
+pub mod MergeLemmas
+pub mod RestLemmas
+pub mod WritesLemmas
+pub mod StepLemmas
+pub mod TermSums
+pub mod Divisions
+pub mod Shapes
+pub mod Steps
+pub mod NeatSteps
+pub mod TurnLemmas
+pub mod Laws
+pub mod ReducedLemmas
+pub mod TurnedLemmas

@@ -1,0 +1,5 @@
+pub mod Divisors
+pub mod Equations
+pub mod Elimination
+pub mod Merging
+pub mod Replacing
