@@ -36,7 +36,7 @@ fn zero_says_the_same_each_time(rt: HostRuntime) -> Result<(), Fail> {
     let root = root(&rt, alloc)?;
     let within = root.lies_in(system.root());
     assert!(rt; within);
-    let mut guide = ZeroGuide::new();
+    let mut guide = ZeroGuide;
     let mult = guide.multipliers(alloc, &system, &root)?;
     assert_eq!(rt; mult.q(), 1);
     assert!(rt; mult.entries().is_empty());

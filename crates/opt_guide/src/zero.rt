@@ -11,12 +11,6 @@ use std::alloc::Global;
 #[derive(Clone, Copy, Debug, PartialEq, Eq)]
 pub struct ZeroGuide;
 
-impl ZeroGuide {
-    pub fn new() -> ZeroGuide {
-        ZeroGuide
-    }
-}
-
 impl Guide for ZeroGuide {
     ghost may_weigh = { λ _. λ s box m. m ≡ record { q = pos 1; entries = [] } };
 

@@ -10,6 +10,7 @@ use Rattle.opt_system.specs.Systems.{System, value}
 use Rattle.opt_bound.specs.declared.leaf.Leaf.{Leaf}
 use Rattle.opt_bound.specs.declared.leaf.Leaf.TheVariants.{AtLeast}
 use Rattle.opt_bound.specs.Multipliers.{Multipliers, IsProper, IsAdmissible}
+use Rattle.opt_tree.specs.declared.limits.TheConstants.{NODE_LIMIT}
 use Rattle.opt_tree.specs.declared.node.Node.{Node}
 use Rattle.opt_tree.specs.declared.node.Node.TheVariants as node
 use Rattle.opt_tree.specs.declared.node.TreeNode.{TreeNode}
@@ -39,7 +40,7 @@ pub record IsParting (s : System) (gap : ℤ) (old new : State) (bound : ℤ) (l
   pub complete : IsComplete old
   pub was_open : Contains old.open_leaves (bound, leaf)
   pub cut : IsCut (box_of old.tree leaf) j c
-  pub room : length old.tree.nodes + 2 ≤ 1000000
+  pub room : length old.tree.nodes + 2 ≤ NODE_LIMIT
   pub splits : Splits old new bound leaf j c
 
 opened : (s : System) (gap : ℤ) (old new : State) (bound : ℤ) (leaf j : ℕ) (c : ℤ) → IsParting s gap old new bound leaf j c → IsOpenLeaf gap old bound leaf

@@ -1,6 +1,7 @@
 ghost use Rattle.std.specs.Prelude.{◌≡◌, ℤ, List, Option, Ok, ◌+◌, ◌*◌, ◌<◌, ◌≤◌, ◌≤ℤ◌, pos, length, IfOk, OnOk};
 ghost use Rattle.opt_system.specs.Ranges.{points};
 ghost use Rattle.opt_bound.specs.Multipliers.{IsAdmissible};
+ghost use Rattle.opt_tree.specs.declared.limits.TheConstants.{NODE_LIMIT};
 ghost use Rattle.opt_tree.specs.Certificates.{IsCertificate};
 ghost use Rattle.opt_tree.specs.Outcomes.{outcome_certificate};
 ghost use Rattle.opt_tree.specs.Shown.{shown};
@@ -28,7 +29,7 @@ use std::alloc::Global;
 /// it picks the leaf to split next from those that are open, ranked by rising bound and then by number. What it says
 /// wrongly is replaced: multipliers that are not admissible by the objective alone; a cut that is none by the halving of
 /// the first quantity that has several values; a rank that there is not by 0; a candidate that does not meet the system
-/// or is no better than the best point is dropped. `gap` is at least 0, and `limit` from 1 to 1,000,000.
+/// or is no better than the best point is dropped. `gap` is at least 0, and `limit` from 1 to `NODE_LIMIT`.
 pub fn search<G: Guide>(
     alloc: Global,
     system: &System,
@@ -38,7 +39,7 @@ pub fn search<G: Guide>(
 ) -> Result<Outcome, OutOfMemory>
     requires gap_from_zero { pos 0 ≤ℤ gap }
     requires at_least_one { 1 ≤ limit }
-    requires at_most_a_million { limit ≤ 1000000 }
+    requires few_nodes { limit ≤ NODE_LIMIT }
 
     // Whatever the guide says.
     ensures true_verdict { IfOk result (λ o. IsTrueVerdict system.now gap o.verdict (best_point o)) }

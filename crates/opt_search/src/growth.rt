@@ -3,6 +3,7 @@ ghost use Rattle.opt_system.specs.Ranges.{LiesIn};
 ghost use Rattle.opt_system.specs.Cuts.{IsCut};
 ghost use Rattle.opt_bound.specs.Multipliers.{IsAdmissible};
 ghost use Rattle.opt_bound.specs.declared.leaf.Leaf.TheVariants.{Empty, AtLeast};
+ghost use Rattle.opt_tree.specs.declared.limits.TheConstants.{NODE_LIMIT};
 ghost use Rattle.opt_tree.specs.Nodes.{IsLeaf, box_of};
 ghost use Rattle.opt_tree.specs.Shown.{leaf_at};
 ghost use Rattle.opt_guide.specs.Relations.{AllowsSame};
@@ -28,7 +29,7 @@ pub fn grow<G: Guide>(
     requires sound { IsSound task.now.system.now task.now.gap state.old }
     requires complete { IsComplete state.old }
     requires some_open { state.old.open_leaves ≢ [] }
-    requires room { length state.old.tree.nodes + 2 ≤ 1000000 }
+    requires room { length state.old.tree.nodes + 2 ≤ NODE_LIMIT }
     ensures sound { OnOk result (IsSound task.now.system.now task.now.gap state.new) }
     ensures complete { OnOk result (IsComplete state.new) }
     ensures two_more { OnOk result (length state.new.tree.nodes ≡ length state.old.tree.nodes + 2) }
@@ -90,7 +91,7 @@ fn split(
 ) -> Result<(u32, u32), OutOfMemory>
     requires leaf { IsLeaf state.old.tree leaf.1 }
     requires cut { IsCut (box_of state.old.tree leaf.1) cut.0 cut.1 }
-    requires room { length state.old.tree.nodes + 2 ≤ 1000000 }
+    requires room { length state.old.tree.nodes + 2 ≤ NODE_LIMIT }
     ensures split { OnOk result (Splits state.old state.new leaf.0 leaf.1 cut.0 cut.1) }
     ensures left { IfOk result (λ children. children.0 ≡ length state.old.tree.nodes) }
     ensures right { IfOk result (λ children. children.1 ≡ length state.old.tree.nodes + 1) }

@@ -11,6 +11,7 @@ pub mod SameShape
 pub mod SplitLemmas
 pub mod SplitTree
 pub mod BoxLemmas
+pub mod HandLemmas
 pub mod NarrowLemmas
 pub mod Occurs
 pub mod LeafSums

@@ -7,6 +7,7 @@ use Rattle.opt_system.specs.Cuts.{IsCut}
 use Rattle.opt_bound.specs.Multipliers.{Multipliers}
 use Rattle.opt_bound.specs.Bound.{trivial_multipliers}
 use Rattle.opt_tree.specs.declared.limits.TheConstants.{NODE_LIMIT}
+use Rattle.opt_tree.specs.declared.boxes.BoxAtHand.{BoxAtHand}
 use Rattle.opt_tree.specs.declared.node.Node.{Node}
 use Rattle.opt_tree.specs.declared.node.Node.TheVariants.{Leaf, Split}
 use Rattle.opt_tree.specs.declared.node.End.{End}
@@ -23,6 +24,10 @@ pub record Tree : Type 0 where
 -- a leaf that says nothing, which stands for a node that there is not
 abbrev pub no_node : TreeNode
 no_node = record { node = Leaf; mult = trivial_multipliers; link = None }
+
+-- the tree of these nodes below this root
+abbrev pub tree_from : Range → List TreeNode → Tree
+tree_from root nodes = record { root = root; nodes = nodes }
 
 -- node i of the list
 abbrev pub node_at : List TreeNode → ℕ → TreeNode
@@ -62,6 +67,11 @@ boxes t = boxes_from t.root [] (links t.nodes)
 -- the box of node i
 abbrev pub box_of : Tree → ℕ → Range
 box_of t i = slice_index_or (boxes t) i t.root
+
+-- the box at hand is that of its node
+pub record IsAtHand (t : Tree) (hand : BoxAtHand) : Type 0 where
+  pub in_tree : hand.node < length t.nodes
+  pub own_box : hand.range ≡ box_of t hand.node
 
 -- ---- what every tree keeps
 -- the end that the link says lies in the box of the parent

@@ -1,9 +1,9 @@
 //! The boxes of nodes, found on the way from a node up to the root.
 
-ghost use Rattle.std.specs.Prelude.{◌≡◌, ◌↔◌, ◌<◌, pos, ◌≤ℤ◌, ◌<ℤ◌, length, IsTrue, IfOk, SomeIff};
+ghost use Rattle.std.specs.Prelude.{◌≡◌, ◌↔◌, ◌<◌, Some, pos, ◌≤ℤ◌, ◌<ℤ◌, length, IsTrue, IfOk, IfSome, OnOk, SomeIff};
 ghost use Rattle.opt_sums.specs.Sums.{at};
 ghost use Rattle.opt_system.specs.Cuts.{IsCut};
-ghost use Rattle.opt_tree.specs.Nodes.{IsTree, node_at, box_of, link_left, link_right};
+ghost use Rattle.opt_tree.specs.Nodes.{IsTree, IsInward, IsAtHand, tree_from, node_at, box_of, changed, link_left, link_right};
 ghost use Rattle.opt_tree.specs.Narrowed.{side, narrowed, LeavesSome};
 
 use crate::node::{End, Link, TreeNode};
@@ -18,10 +18,10 @@ pub fn range_at(
     nodes: &[TreeNode],
     i: u32,
 ) -> Result<Range, OutOfMemory>
-    requires tree { IsTree (record { root = root.now; nodes = nodes.now }) }
+    requires tree { IsTree (tree_from root.now nodes.now) }
     requires node { i < length nodes.now }
     ensures { IfOk result (λ range.
-        range ≡ box_of (record { root = root.now; nodes = nodes.now }) i) }
+        range ≡ box_of (tree_from root.now nodes.now) i) }
 {
     let mut range = root.copy(alloc)?;
     narrow(&mut range, nodes, i);
@@ -30,9 +30,9 @@ pub fn range_at(
 
 /// Narrows the root's box to that of node `i`.
 fn narrow(range: &mut Range, nodes: &[TreeNode], i: u32)
-    requires tree { IsTree (record { root = range.old; nodes = nodes.now }) }
+    requires tree { IsTree (tree_from range.old nodes.now) }
     requires node { i < length nodes.now }
-    ensures { range.new ≡ box_of (record { root = range.old; nodes = nodes.now }) i }
+    ensures { range.new ≡ box_of (tree_from range.old nodes.now) i }
 {
     let mut at = i;
     while let Some(link) = link_at(nodes, at) {
@@ -70,6 +70,18 @@ fn tighten(range: &mut Range, link: Link)
     }
 }
 
+/// Takes the end that the link says.
+fn change(range: &mut Range, link: Link)
+    requires from_zero { pos 0 ≤ℤ link.value }
+    requires inward { IsInward range.old link }
+    ensures { range.new ≡ changed range.old link }
+{
+    match link.end {
+        End::Low => range.set_low(link.quantity, link.value),
+        End::High => range.set_high(link.quantity, link.value),
+    }
+}
+
 /// Whether the link changes this end of this quantity's range.
 fn changes(link: Link, quantity: u32, end: End) -> bool
     ensures { IsTrue result ↔ ((link.quantity ≡ quantity) × (link.end ≡ end)) }
@@ -77,70 +89,15 @@ fn changes(link: Link, quantity: u32, end: End) -> bool
     link.quantity == quantity && link.end == end
 }
 
-/// The least or the greatest value of a quantity in the box of node `i`: the last end that changed on the way from the
-/// root to it, or the root's.
-pub fn end_at(root: &Range, nodes: &[TreeNode], i: u32, quantity: u32, end: End) -> i64
-    requires tree { IsTree (record { root = root.now; nodes = nodes.now }) }
-    requires node { i < length nodes.now }
-    requires quantity { quantity < length root.now.low }
-    ensures { result
-        ≡ at (side end (box_of (record { root = root.now; nodes = nodes.now }) i)) quantity }
-{
-    let mut at = i;
-    while let Some(link) = link_at(nodes, at) {
-        if changes(link, quantity, end) {
-            return link.value;
-        }
-        at = link.parent;
-    }
-    root_end(root, quantity, end)
-}
-
-/// The least or the greatest value of a quantity in the root's box.
-fn root_end(root: &Range, quantity: u32, end: End) -> i64
-    requires { quantity < length root.now.low }
-    ensures { result ≡ at (side end root.now) quantity }
+/// The least or the greatest value of a quantity in a box.
+fn end_in(range: &Range, quantity: u32, end: End) -> i64
+    requires { quantity < length range.now.low }
+    ensures { result ≡ at (side end range.now) quantity }
 {
     match end {
-        End::Low => root.low()[quantity as usize],
-        End::High => root.high()[quantity as usize],
+        End::Low => range.low()[quantity as usize],
+        End::High => range.high()[quantity as usize],
     }
-}
-
-/// The links of the two halves of the box of node `i`, where both have a value: the left half has the values of
-/// `quantity` up to `at`, the right half those from `at + 1` on.
-pub fn halves(
-    root: &Range,
-    nodes: &[TreeNode],
-    i: u32,
-    quantity: u32,
-    at: i64,
-) -> Option<(Link, Link)>
-    requires tree { IsTree (record { root = root.now; nodes = nodes.now }) }
-    requires node { i < length nodes.now }
-    ensures { let box = box_of (record { root = root.now; nodes = nodes.now }) i in
-        SomeIff result (IsCut box quantity at) (link_left i quantity at, link_right i quantity at) }
-{
-    if quantity as usize >= root.low().len() {
-        return None;
-    }
-    let low = end_at(root, nodes, i, quantity, End::Low);
-    let high = end_at(root, nodes, i, quantity, End::High);
-    if !leaves_both(low, at, high) {
-        return None;
-    }
-    let left = Link {
-        parent: i,
-        quantity,
-        end: End::High,
-        value: at,
-    };
-    let right = Link {
-        end: End::Low,
-        value: at + 1,
-        ..left
-    };
-    Some((left, right))
 }
 
 /// Whether a cut at this value leaves one on both sides.
@@ -148,4 +105,130 @@ fn leaves_both(low: i64, at: i64, high: i64) -> bool
     ensures { IsTrue result ↔ ((low ≤ℤ at) × (at <ℤ high)) }
 {
     low <= at && at < high
+}
+
+/// A node and its box.
+///
+/// A tree keeps that of the node that was split last, or of the root: the boxes of its children are found from it by one
+/// change each, without the way up to the root.
+#[derive(Debug, Drop)]
+pub struct BoxAtHand {
+    pub node: u32,
+    pub range: Range,
+}
+
+impl BoxAtHand {
+    /// The link of node `i`, where it is a child of the node at hand.
+    fn link_below(&self, nodes: &[TreeNode], i: u32) -> Option<Link>
+        requires { i < length nodes.now }
+        ensures link { IfSome result (λ link. (node_at nodes.now i).link ≡ Some link) }
+        ensures child { IfSome result (λ link. link.parent ≡ self.now.node) }
+    {
+        link_at(nodes, i).filter(|link| link.parent == self.node)
+    }
+
+    /// Takes node `i` in hand.
+    pub fn take(
+        &mut self,
+        alloc: Global,
+        root: &Range,
+        nodes: &[TreeNode],
+        i: u32,
+    ) -> Result<(), OutOfMemory>
+        requires tree { IsTree (tree_from root.now nodes.now) }
+        requires at_hand { IsAtHand (tree_from root.now nodes.now) self.old }
+        requires node { i < length nodes.now }
+        ensures at_hand { IsAtHand (tree_from root.now nodes.now) self.new }
+        ensures node { OnOk result (self.new.node ≡ i) }
+    {
+        if let Some(link) = self.link_below(nodes, i) {
+            change(&mut self.range, link);
+            self.node = i;
+            return Ok(());
+        }
+        self.range = range_at(alloc, root, nodes, i)?;
+        self.node = i;
+        Ok(())
+    }
+
+    /// The box of node `i`.
+    pub fn range_of(
+        &self,
+        alloc: Global,
+        root: &Range,
+        nodes: &[TreeNode],
+        i: u32,
+    ) -> Result<Range, OutOfMemory>
+        requires tree { IsTree (tree_from root.now nodes.now) }
+        requires at_hand { IsAtHand (tree_from root.now nodes.now) self.now }
+        requires node { i < length nodes.now }
+        ensures { IfOk result (λ range. range ≡ box_of (tree_from root.now nodes.now) i) }
+    {
+        let Some(link) = self.link_below(nodes, i) else {
+            return range_at(alloc, root, nodes, i);
+        };
+        let mut range = self.range.copy(alloc)?;
+        change(&mut range, link);
+        Ok(range)
+    }
+
+    /// The least or the greatest value of a quantity in the box of node `i`: the last end that changed on the way from the
+    /// box at hand, or else from the root, to it, or the end that it has there.
+    fn end_at(&self, root: &Range, nodes: &[TreeNode], i: u32, quantity: u32, end: End) -> i64
+        requires tree { IsTree (tree_from root.now nodes.now) }
+        requires at_hand { IsAtHand (tree_from root.now nodes.now) self.now }
+        requires node { i < length nodes.now }
+        requires quantity { quantity < length root.now.low }
+        ensures { result ≡ at (side end (box_of (tree_from root.now nodes.now) i)) quantity }
+    {
+        let mut at = i;
+        while let Some(link) = link_at(nodes, at) {
+            if at == self.node {
+                return end_in(&self.range, quantity, end);
+            }
+            if changes(link, quantity, end) {
+                return link.value;
+            }
+            at = link.parent;
+        }
+        end_in(root, quantity, end)
+    }
+
+    /// The links of the two halves of the box of node `i`, where both have a value: the left half has the values of
+    /// `quantity` up to `at`, the right half those from `at + 1` on.
+    pub fn halves(
+        &self,
+        root: &Range,
+        nodes: &[TreeNode],
+        i: u32,
+        quantity: u32,
+        at: i64,
+    ) -> Option<(Link, Link)>
+        requires tree { IsTree (tree_from root.now nodes.now) }
+        requires at_hand { IsAtHand (tree_from root.now nodes.now) self.now }
+        requires node { i < length nodes.now }
+        ensures { let box = box_of (tree_from root.now nodes.now) i in
+            SomeIff result (IsCut box quantity at) (link_left i quantity at, link_right i quantity at) }
+    {
+        if quantity as usize >= root.low().len() {
+            return None;
+        }
+        let low = self.end_at(root, nodes, i, quantity, End::Low);
+        let high = self.end_at(root, nodes, i, quantity, End::High);
+        if !leaves_both(low, at, high) {
+            return None;
+        }
+        let left = Link {
+            parent: i,
+            quantity,
+            end: End::High,
+            value: at,
+        };
+        let right = Link {
+            end: End::Low,
+            value: at + 1,
+            ..left
+        };
+        Some((left, right))
+    }
 }

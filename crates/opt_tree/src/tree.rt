@@ -3,7 +3,7 @@ ghost use Rattle.opt_tree.specs.declared.node.Node.TheVariants.{Leaf, Split};
 ghost use Rattle.opt_bound.specs.Bound.{trivial_multipliers};
 ghost use Rattle.opt_tree.specs.Nodes.{child_of, node_at, parted};
 
-use crate::boxes::{halves, range_at};
+use crate::boxes::BoxAtHand;
 use crate::limits::NODE_LIMIT;
 use crate::node::{Link, Node, TreeNode};
 use crate::split_fault::SplitFault;
@@ -15,22 +15,25 @@ use std::marker::Model;
 
 /// A tree of boxes, which grows by splits: node 0 has the root's box, and each split parts a leaf's box into two.
 ///
-/// A node keeps its parent and the one end that its split changed, so memory is linear in the nodes. Contracts see the
+/// A node keeps its parent and the one end that its split changed, so memory is linear in the nodes. The box of the node
+/// that was split last is at hand, so a tree that is grown depth first costs no way up to the root. Contracts see the
 /// root's box and the list of nodes; `box_of` is the box of a node.
 #[derive(Debug, Drop)]
 pub struct Tree {
     root: Range,
     nodes: Vec<TreeNode>,
+    at_hand: BoxAtHand,
 }
 
 impl Model for Tree {
-    ghost use Rattle.opt_tree.specs.Nodes.{Tree, IsTree};
+    ghost use Rattle.opt_tree.specs.Nodes.{Tree, IsTree, IsAtHand, tree_from};
 
     ghost Value = { Tree };
 
-    ghost view = { λ t. record { root = t.root; nodes = t.nodes.items } };
+    ghost view = { λ t. tree_from t.root t.nodes.items };
 
-    ghost invariant = { λ t. IsTree (record { root = t.root; nodes = t.nodes.items }) };
+    ghost invariant = { λ t. IsTree (tree_from t.root t.nodes.items)
+        × IsAtHand (tree_from t.root t.nodes.items) t.at_hand };
 }
 
 impl Tree {
@@ -50,7 +53,15 @@ impl Tree {
             mult: Mult::trivial(alloc),
             link: None,
         })?;
-        Ok(Tree { root, nodes })
+        let at_hand = BoxAtHand {
+            node: 0,
+            range: root.copy(alloc)?,
+        };
+        Ok(Tree {
+            root,
+            nodes,
+            at_hand,
+        })
     }
 
     /// Splits a leaf: the left half has the values of `quantity` up to `at`, the right half those from `at + 1` on.
@@ -80,9 +91,13 @@ impl Tree {
         if !self.is_leaf(leaf) {
             return Err(SplitFault::NotLeaf);
         }
-        let Some((left, right)) = halves(&self.root, &self.nodes, leaf, quantity, at) else {
+        let halves = self
+            .at_hand
+            .halves(&self.root, &self.nodes, leaf, quantity, at);
+        let Some((left, right)) = halves else {
             return Err(SplitFault::BadCut);
         };
+        self.at_hand.take(alloc, &self.root, &self.nodes, leaf)?;
         let next = self.nodes();
         part(&mut self.nodes, alloc, leaf, left, right)?;
         Ok((next, next + 1))
@@ -138,7 +153,7 @@ impl Tree {
         ensures value { IfOk result (λ range. range ≡ box_of self.now leaf) }
         ensures within { OnOk result (LiesIn self.now.root (box_of self.now leaf)) }
     {
-        range_at(alloc, &self.root, &self.nodes, leaf)
+        self.at_hand.range_of(alloc, &self.root, &self.nodes, leaf)
     }
 }
 

@@ -12,7 +12,7 @@ use std::test::Fail;
 fn a_need_that_is_met(rt: HostRuntime) -> Result<(), Fail> {
     let alloc = rt.alloc();
     let system = basket(&rt, alloc, 10_000)?;
-    let outcome = search(alloc, &system, 0, 7, &mut ZeroGuide::new())?;
+    let outcome = search(alloc, &system, 0, 7, &mut ZeroGuide)?;
     let verdict = Verdict::Plan {
         objective: 0,
         bound: 0,
@@ -26,10 +26,10 @@ fn a_need_that_is_met(rt: HostRuntime) -> Result<(), Fail> {
 fn a_need_past_the_greatest_ration(rt: HostRuntime) -> Result<(), Fail> {
     let alloc = rt.alloc();
     let system = basket(&rt, alloc, 20_000)?;
-    let whole = search(alloc, &system, 0, 7, &mut ZeroGuide::new())?;
+    let whole = search(alloc, &system, 0, 7, &mut ZeroGuide)?;
     assert_eq!(rt; whole.verdict, Verdict::NoPlan);
     assert_eq!(rt; whole.tree.nodes(), 7);
-    let short = search(alloc, &system, 0, 6, &mut ZeroGuide::new())?;
+    let short = search(alloc, &system, 0, 6, &mut ZeroGuide)?;
     let unfinished = Verdict::Unfinished {
         bound: 0,
         best: None,
@@ -114,7 +114,7 @@ fn many_quantities_and_nodes(rt: HostRuntime) -> Result<(), Fail> {
     let low = vec![in alloc; 0i64; 10_000]?;
     let high = vec![in alloc; 1i64; 10_000]?;
     let system = system(&rt, alloc, &rows, &low, &high, &low)?;
-    let outcome = search(alloc, &system, 0, 20_001, &mut ZeroGuide::new())?;
+    let outcome = search(alloc, &system, 0, 20_001, &mut ZeroGuide)?;
     assert_eq!(rt;
         outcome.verdict,
         Verdict::Unfinished {
@@ -126,19 +126,19 @@ fn many_quantities_and_nodes(rt: HostRuntime) -> Result<(), Fail> {
     Ok(())
 }
 
-/// One quantity from 0 to 4,999 that should be at least 5,000, cut off value by value: a tree as deep as it has leaves.
+/// One quantity from 0 to 99,999 that should be at least 100,000, cut off value by value: a tree as deep as it has leaves.
 #[test]
 fn a_deep_tree(rt: HostRuntime) -> Result<(), Fail> {
     let alloc = rt.alloc();
     let mut rows = RowList::new(alloc);
-    push(&rt, &mut rows, RowKind::Ge, 5000, &[(0, 1)])?;
-    let system = system(&rt, alloc, &rows, &[0], &[4999], &[0])?;
+    push(&rt, &mut rows, RowKind::Ge, 100_000, &[(0, 1)])?;
+    let system = system(&rt, alloc, &rows, &[0], &[99_999], &[0])?;
     let mut guide = ScriptGuide::new(alloc);
-    for value in 0..4999 {
+    for value in 0..99_999 {
         guide.add_cut(0, value)?;
     }
     let outcome = search(alloc, &system, 0, 1_000_000, &mut guide)?;
     assert_eq!(rt; outcome.verdict, Verdict::NoPlan);
-    assert_eq!(rt; outcome.tree.nodes(), 9999);
+    assert_eq!(rt; outcome.tree.nodes(), 199_999);
     Ok(())
 }

@@ -44,7 +44,7 @@ fn the_least_of_all_points(rt: HostRuntime) -> Result<(), Fail> {
     let alloc = rt.alloc();
     for case in &CASES {
         let system = system_of(&rt, alloc, case)?;
-        let outcome = search(alloc, &system, 0, 1_000_000, &mut ZeroGuide::new())?;
+        let outcome = search(alloc, &system, 0, 1_000_000, &mut ZeroGuide)?;
         let verdict = match case.least {
             Some(least) => Verdict::Plan {
                 objective: least,

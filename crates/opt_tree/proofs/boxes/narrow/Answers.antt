@@ -2,12 +2,12 @@ use Rattle.std.proofs.Common.{◌≡◌, ◌<◌, length, ℕ, pos, ◌≤ℤ◌
 use Rattle.std.proofs.lemmas.Int.{ints}
 use Rattle.opt_system.specs.Ranges.{Range}
 use Rattle.opt_tree.specs.declared.node.Link.{Link}
-use Rattle.opt_tree.specs.Nodes.{Tree, IsTree, IsLinked, changed, node_at, box_of}
+use Rattle.opt_tree.specs.Nodes.{Tree, IsTree, IsLinked, tree_from, changed, node_at, box_of}
 use Rattle.opt_tree.specs.Narrowed.{IsOnWay, LeavesSome, narrowed}
 use Rattle.opt_tree.proofs.BoxLemmas.{IsBox, box_of-IsBox}
 use Rattle.opt_tree.proofs.NodeLemmas.{box_of-child, box_of-root}
 use Rattle.opt_tree.proofs.NarrowLemmas.{on_way_first, on_way_up, on_way_last, leaves_some}
-use Rattle.opt_tree.proofs.boxes.narrow.Invariants.{tree_from, IsHere}
+use Rattle.opt_tree.proofs.boxes.narrow.Invariants.{IsHere}
 use Rattle.opt_tree.proofs.boxes.narrow.Goals as goal
 
 here_first : (t : Tree) (i : ℕ) → IsTree t → i < length t.nodes → IsHere t i i t.root

@@ -1,13 +1,8 @@
-use Rattle.std.proofs.Common.{◌<◌, length, List, ℕ}
+use Rattle.std.proofs.Common.{◌<◌, length, ℕ}
 use Rattle.opt_system.specs.Ranges.{Range}
-use Rattle.opt_tree.specs.declared.node.TreeNode.{TreeNode}
-use Rattle.opt_tree.specs.Nodes.{Tree, box_of}
+use Rattle.opt_tree.specs.Nodes.{Tree, tree_from, box_of}
 use Rattle.opt_tree.specs.Narrowed.{IsOnWay}
 use Rattle.opt_tree.proofs.boxes.narrow.Given as goal
-
--- the tree of these nodes below this root
-abbrev pub tree_from : Range → List TreeNode → Tree
-tree_from root nodes = record { root = root; nodes = nodes }
 
 pub record IsHere (t : Tree) (node i : ℕ) (box : Range) : Type 0 where
   pub in_tree : node < length t.nodes

@@ -9,6 +9,6 @@ on_ok (Err e) p = tt
 
 pub returns-clause-within : goal.returns-clause-within
 returns-clause-within c =
-    let tree : IsTree c.args.self.now = subst (λ (t : Tree). IsTree t) c.self.view_is c.self.invariant in
+    let tree : IsTree c.args.self.now = subst (λ (t : Tree). IsTree t) c.self.view_is c.self.invariant.0 in
     let box : IsBox c.args.self.now c.args.leaf = box_of-IsBox c.args.self.now c.args.leaf tree c.requires.in_tree in
-    on_ok c.range_at.result box.within
+    on_ok c.range_of.result box.within

@@ -3,15 +3,16 @@ use Rattle.std.proofs.lemmas.Int.{to_z-of_z}
 use mir.Syntax.{w64}
 use Rattle.opt_sums.specs.Sums.{at}
 use Rattle.opt_system.specs.Ranges.{Range}
+use Rattle.opt_tree.specs.declared.boxes.BoxAtHand.{BoxAtHand}
 use Rattle.opt_tree.specs.declared.node.End.{End}
 use Rattle.opt_tree.specs.declared.node.Link.{Link}
-use Rattle.opt_tree.specs.Nodes.{Tree, IsTree, IsLinked, node_at, box_of}
+use Rattle.opt_tree.specs.Nodes.{Tree, IsTree, IsLinked, IsAtHand, tree_from, node_at, box_of}
 use Rattle.opt_tree.specs.Narrowed.{side}
 use Rattle.opt_tree.proofs.BoxLemmas.{IsBox, box_of-IsBox}
 use Rattle.opt_tree.proofs.NodeLemmas.{box_of-child, box_of-root}
 use Rattle.opt_tree.proofs.NarrowLemmas.{end_kept, end_given}
-use Rattle.opt_tree.proofs.boxes.end_at.Invariants.{IsSameEnd}
-use Rattle.opt_tree.proofs.boxes.end_at.Goals as goal
+use Rattle.opt_tree.proofs.boxes.BoxAtHand.end_at.Invariants.{IsSameEnd}
+use Rattle.opt_tree.proofs.boxes.BoxAtHand.end_at.Goals as goal
 
 same_up : (t : Tree) (e : End) (q node i : ℕ) (k : Link) → IsTree t → IsSameEnd t e q node i → (node_at t.nodes node).link ≡ Some k → (k.quantity ≡ q → k.end ≡ e → ⊥) → IsSameEnd t e q k.parent i
 same_up t e q node i k tree here is other =
@@ -38,17 +39,25 @@ loop-link-smaller c =
 
 pub loop-link-preserved : goal.loop-link-preserved
 loop-link-preserved c =
-    same_up (record { root = c.args.root.now; nodes = c.args.nodes.now }) c.args.end c.args.quantity c.loop-link.at c.args.i c.in-Some.link c.requires.tree c.loop-link.invariant (sym c.in-Some.ensures) (λ h k. absurd (cc (c.changes.ensures.1 (h, k), c.if-changes.false)))
+    same_up (tree_from c.args.root.now c.args.nodes.now) c.args.end c.args.quantity c.loop-link.at c.args.i c.in-Some.link c.requires.tree c.loop-link.invariant (sym c.in-Some.ensures) (λ h k. absurd (cc (c.changes.ensures.1 (h, k), c.if-changes.false)))
 
 pub returns-then-changes : goal.returns-then-changes
 returns-then-changes c =
     let fits : FitsSigned w64 c.in-Some.link.value = search rules in
     let both : (c.in-Some.link.quantity ≡ c.args.quantity) × (c.in-Some.link.end ≡ c.args.end) = c.if-changes.ensures.0 refl in
     rw (to_z-of_z w64 c.in-Some.link.value fits)
-    (given (record { root = c.args.root.now; nodes = c.args.nodes.now }) c.args.end c.args.quantity c.loop-link.at c.args.i c.in-Some.link c.requires.tree c.loop-link.invariant (sym c.in-Some.ensures) both.0 both.1)
+    (given (tree_from c.args.root.now c.args.nodes.now) c.args.end c.args.quantity c.loop-link.at c.args.i c.in-Some.link c.requires.tree c.loop-link.invariant (sym c.in-Some.ensures) both.0 both.1)
+
+at_hand : (t : Tree) (hand : BoxAtHand) (e : End) (q node i : ℕ) → IsAtHand t hand → IsSameEnd t e q node i → node ≡ hand.node → at (side e hand.range) q ≡ at (side e (box_of t i)) q
+at_hand t hand e q node i here same this = ap (λ (b : Range). at (side e b) q) (here.own_box ∙ ap (box_of t) (sym this)) ∙ same.same
 
 pub returns : goal.returns
 returns c =
-    let fits : FitsSigned w64 c.root_end.result = record { sfits = c.root_end.type_inv } in
-    rw (to_z-of_z w64 c.root_end.result fits)
-    (c.root_end.ensures ∙ at_root (record { root = c.args.root.now; nodes = c.args.nodes.now }) c.args.end c.args.quantity c.loop-link.at c.args.i c.loop-link.invariant (sym c.link_at.ensures ∙ c.in_default.is))
+    let fits : FitsSigned w64 c.end_in-2.result = record { sfits = c.end_in-2.type_inv } in
+    rw (to_z-of_z w64 c.end_in-2.result fits)
+    (c.end_in-2.ensures ∙ at_root (tree_from c.args.root.now c.args.nodes.now) c.args.end c.args.quantity c.loop-link.at c.args.i c.loop-link.invariant (sym c.link_at.ensures ∙ c.in_default.is))
+
+pub end_in-requires : goal.end_in-requires
+end_in-requires c =
+    let box : IsBox (tree_from c.args.root.now c.args.nodes.now) c.args.self.now.node = box_of-IsBox (tree_from c.args.root.now c.args.nodes.now) c.args.self.now.node c.requires.tree c.requires.at_hand.in_tree in
+    omega (arith, c.requires.quantity, box.within.same_length, ap (λ (b : Range). length b.low) c.requires.at_hand.own_box)
