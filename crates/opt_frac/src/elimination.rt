@@ -40,7 +40,7 @@ pub fn least_factors(lead: i128, coefficient: i128) -> Factors
 }
 
 /// The number divided by a divisor, toward zero.
-fn quotient(number: i128, divisor: u128) -> i128
+pub fn quotient(number: i128, divisor: u128) -> i128
     requires positive { 1 ≤ divisor }
     requires fitting { Fits (pos divisor) }
     ensures { result ≡ int_div number (pos divisor) }

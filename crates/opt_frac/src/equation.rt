@@ -101,6 +101,17 @@ impl Equation {
         coefficient(self.terms(), variable)
     }
 
+    /// The equation as one sum that is 0: its terms, and its lead with the sign changed at the basic variable.
+    pub fn whole_terms(&self, alloc: Global) -> Result<Vec<(u32, i128)>, OutOfMemory>
+        ensures whole { IfOk result (λ terms. terms.items ≡ whole self.now) }
+        ensures reduced { IsReduced self.now }
+    {
+        let place = place_of(self.terms(), self.basic());
+        let mut terms = Vec::from_slice(alloc, self.terms())?;
+        terms.insert(place, (self.basic(), -self.lead()))?;
+        Ok(terms)
+    }
+
     /// The same equation solved for the variable `col`, at which it has a term.
     pub fn turn(&self, alloc: Global, col: u32) -> Result<Equation, OutOfMemory>
         requires { HasTerm self.now col }

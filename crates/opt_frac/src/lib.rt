@@ -13,9 +13,11 @@ mod turning;
 
 pub use divisor::gcd;
 pub use elim_fault::ElimFault;
+pub use elimination::quotient;
 pub use equation::Equation;
 pub use fraction::compare;
 pub use number::{product, sum};
+pub use turning::negate_if;
 
 #[cfg(test)]
 mod tests;

@@ -6,9 +6,9 @@ use Rattle.opt_sums.specs.Sums.{at}
 use Rattle.opt_sums.specs.Entries.{weighted_sum}
 use Rattle.opt_frac.specs.Divisors.{fits}
 use Rattle.opt_frac.specs.Equations.{Equation}
+use Rattle.opt_simplex.specs.Tableau.{equation_at}
 use Rattle.opt_simplex.specs.Variables.{Variables, low_of, high_of}
 use Rattle.opt_simplex.specs.Choice.{sum_from, values, Leaving, is_above, out_of_range, lesser, leaving_from}
-use Rattle.opt_simplex.proofs.Regular.{equation_at}
 
 none_some : (l : Leaving) → None ≡ Some l → ⊥
 none_some l h = cc

@@ -14,13 +14,13 @@ use Rattle.opt_frac.proofs.Shapes.{rising-negated_if, no_zero-negated_if, number
 use Rattle.opt_frac.proofs.Steps.{gap, unit, weighted_sum-unit, gap-unit, gap-basic, mul_comm}
 use Rattle.opt_frac.proofs.NeatSteps.{IsNeat, neat-whole}
 use Rattle.opt_simplex.specs.Variables.{Variables, variables_of, low_of, high_of, rests_high, resting, is_free}
-use Rattle.opt_simplex.specs.Tableau.{Tableau, cost_multipliers, empty_multipliers}
+use Rattle.opt_simplex.specs.Tableau.{Tableau, cost_multipliers, empty_multipliers, equation_at}
 use Rattle.opt_simplex.specs.Choice.{can_help, may_enter}
 use Rattle.opt_simplex.specs.Soundness.{AreDual, ShowsEmpty}
 use Rattle.opt_simplex.proofs.Bridge.{Suits, AreWeights, IsFitBox, bound_is, held_admissible}
 use Rattle.opt_simplex.proofs.Signs.{signed, not_positive_is, not_negative_is}
 use Rattle.opt_simplex.proofs.Suiting.{IsThere, suits_fixed, suits_end}
-use Rattle.opt_simplex.proofs.Regular.{equation_at, variables, IsRegular}
+use Rattle.opt_simplex.proofs.Regular.{variables, IsRegular}
 use Rattle.opt_simplex.proofs.Choices.{IsOut}
 use Rattle.opt_simplex.proofs.Entries.{find_term, helper_not_zero, pair_same}
 

@@ -13,13 +13,13 @@ use Rattle.opt_frac.proofs.NeatSteps.{IsNeat}
 use Rattle.opt_simplex.specs.declared.end.LpEnd.{LpEnd}
 use Rattle.opt_simplex.specs.declared.end.Why.{Why}
 use Rattle.opt_simplex.specs.Variables.{Variables, variables_of, high_of, resting}
-use Rattle.opt_simplex.specs.Tableau.{Tableau, start}
+use Rattle.opt_simplex.specs.Tableau.{Tableau, start, equation_at}
 use Rattle.opt_simplex.specs.Choice.{Leaving, values, leaving_from, entering_from}
 use Rattle.opt_simplex.specs.Pivot.{pivoted}
 use Rattle.opt_simplex.specs.Rule.{Look, Ends, Enters, entering, leaving, valued, looked, after, followed, limited, turns, end_of}
 use Rattle.opt_simplex.specs.Soundness.{IsSound}
 use Rattle.opt_simplex.proofs.Suiting.{IsThere}
-use Rattle.opt_simplex.proofs.Regular.{equation_at, all_of, variables, IsRegular}
+use Rattle.opt_simplex.proofs.Regular.{all_of, variables, IsRegular}
 use Rattle.opt_simplex.proofs.Sweeps.{IsSwept, pivoted-is}
 use Rattle.opt_simplex.proofs.Choices.{AreValues, values-are, IsOut, IsLeaving, leaving-some, leaving-none}
 use Rattle.opt_simplex.proofs.Entries.{IsBest, entering-some, entering-none}
@@ -37,7 +37,7 @@ pub record IsAsked (p : System) (box : Range) (t : Tableau) (l : Leaving) (col :
   pub next_regular : (next : Tableau) → pivoted t l col ≡ Ok next → IsRegular p box next
 
 -- what a look at a regular tableau says: a true end, or a pivot that keeps the next one regular
-abbrev IsTrueLook : System → Range → Tableau → Look → Type 0
+abbrev pub IsTrueLook : System → Range → Tableau → Look → Type 0
 IsTrueLook p box t (Ends end) = IsSound p box end
 IsTrueLook p box t (Enters l col) = IsAsked p box t l col
 
@@ -152,7 +152,7 @@ module _ (p : System) (box : Range) (fit : IsFit p box) where
       leaving_true t done zs regular (values-are (resting (variables_of p box) t.at_high) t.equations zs made)
       (leaving_from (variables_of p box) 0 None t.equations zs) refl
 
-  looked_true : (t : Tableau) (done : ℕ) → IsRegular p box t → IsTrueLook p box t (looked (variables_of p box) done t)
+  pub looked_true : (t : Tableau) (done : ℕ) → IsRegular p box t → IsTrueLook p box t (looked (variables_of p box) done t)
   looked_true t done regular = valued_true t done regular (values (resting (variables_of p box) t.at_high) t.equations) refl
 
   limited_true : (t : Tableau) (done : ℕ) → IsRegular p box t → (look : Look) → IsTrueLook p box t look

@@ -11,7 +11,8 @@ use Rattle.opt_frac.specs.Equations.{Equation}
 use Rattle.opt_frac.specs.Elimination.{turned}
 use Rattle.opt_frac.proofs.Steps.{gap, unit, gap-unit, gap-basic, sign_turned, IsTurned, turned-is, IsReplaced, replaced-is, mul_comm}
 use Rattle.opt_frac.proofs.NeatSteps.{IsNeat, neat-turned, neat-eliminated, numbers-turned}
-use Rattle.opt_simplex.proofs.Regular.{equation_at, MeetsAll, AreApart}
+use Rattle.opt_simplex.specs.Tableau.{equation_at}
+use Rattle.opt_simplex.proofs.Regular.{MeetsAll, AreApart}
 use Rattle.opt_simplex.proofs.Sweeps.{IsTreated, IsSwept}
 
 -- a sum with a positive factor

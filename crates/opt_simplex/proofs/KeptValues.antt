@@ -8,9 +8,9 @@ use Rattle.opt_system.specs.Systems.{System}
 use Rattle.opt_frac.specs.Divisors.{fits}
 use Rattle.opt_frac.proofs.NeatSteps.{IsNeat}
 use Rattle.opt_simplex.specs.Variables.{Variables, variables_of, low_of, high_of, end_of_range, resting}
-use Rattle.opt_simplex.specs.Tableau.{Tableau}
+use Rattle.opt_simplex.specs.Tableau.{Tableau, equation_at}
 use Rattle.opt_simplex.specs.Choice.{sum_from}
-use Rattle.opt_simplex.proofs.Regular.{equation_at, variables, IsRegular}
+use Rattle.opt_simplex.proofs.Regular.{variables, IsRegular}
 use Rattle.opt_simplex.proofs.Exchange.{apart_of_coef}
 
 -- only the variable whose end is set rests elsewhere

@@ -21,3 +21,12 @@ pub mod Optima
 pub mod EndIsSound
 pub mod RawLemmas
 pub mod KeptValues
+pub mod KeptVariables
+pub mod ValueSteps
+pub mod StartSteps
+pub mod ChoiceSteps
+pub mod EntrySteps
+pub mod PointSteps
+pub mod SweepSteps
+pub mod TurnSteps
+pub mod RawParts

@@ -21,12 +21,12 @@ use Rattle.opt_bound.specs.Bound.{bound_of}
 use Rattle.opt_frac.proofs.Steps.{mul_comm, mul_swap}
 use Rattle.opt_frac.proofs.NeatSteps.{IsNeat}
 use Rattle.opt_simplex.specs.Variables.{Variables, variables_of, low_of, high_of, row_high, rests_high, end_of_range, resting}
-use Rattle.opt_simplex.specs.Tableau.{Tableau, cost_multipliers}
+use Rattle.opt_simplex.specs.Tableau.{Tableau, cost_multipliers, equation_at}
 use Rattle.opt_simplex.specs.Choice.{fraction_of, point_of}
 use Rattle.opt_simplex.specs.Soundness.{fraction_at, IsOptimal}
 use Rattle.opt_simplex.proofs.Meeting.{MeetsStart, cost_entries, coef-cost_entries, AllBelow-cost_entries, low_of_quantity, high_of_quantity, low_of_row, high_of_row}
 use Rattle.opt_simplex.proofs.Bridge.{IsFitBox, bound_is}
-use Rattle.opt_simplex.proofs.Regular.{equation_at, all_of, MeetsAll, variables, IsRegular}
+use Rattle.opt_simplex.proofs.Regular.{all_of, MeetsAll, variables, IsRegular}
 use Rattle.opt_simplex.proofs.Choices.{AreValues, IsIn}
 use Rattle.opt_simplex.proofs.Exchange.{apart_of_coef}
 use Rattle.opt_simplex.proofs.Points.{IsScaledPoint, scaled_point, find_basic}

@@ -14,12 +14,12 @@ use Rattle.opt_frac.specs.Elimination.{turned}
 use Rattle.opt_frac.proofs.Steps.{gap, unit, gap-unit, gap-basic, sign_turned, IsTurned, IsReplaced}
 use Rattle.opt_frac.proofs.NeatSteps.{IsNeat}
 use Rattle.opt_simplex.specs.Variables.{Variables, variables_of, low_of, high_of, rests_high, end_of_range, resting, is_free}
-use Rattle.opt_simplex.specs.Tableau.{Tableau}
+use Rattle.opt_simplex.specs.Tableau.{Tableau, equation_at}
 use Rattle.opt_simplex.specs.Choice.{can_help, may_enter}
 use Rattle.opt_simplex.proofs.Bridge.{Suits}
 use Rattle.opt_simplex.proofs.Signs.{signed, kept_sign, leaving_sign}
 use Rattle.opt_simplex.proofs.Suiting.{IsThere, suits_fixed, suits_sign, suits_end}
-use Rattle.opt_simplex.proofs.Regular.{equation_at, all_of, MeetsAll, variables, IsRegular}
+use Rattle.opt_simplex.proofs.Regular.{all_of, MeetsAll, variables, IsRegular}
 use Rattle.opt_simplex.proofs.Sweeps.{IsSwept}
 use Rattle.opt_simplex.proofs.Entries.{HasLeastRatio, helper_not_zero, find_term, pair_same}
 use Rattle.opt_simplex.proofs.Exchange.{IsExchange, turned_at-is, other-stepped, exchange-neat, exchange-values, exchange-basic, exchange-col, exchange-apart}

@@ -9,8 +9,8 @@ use Rattle.opt_frac.specs.Divisors.{gcd}
 use Rattle.opt_frac.specs.Equations.{Equation}
 use Rattle.opt_frac.proofs.Divisions.{gcd-is, exact}
 use Rattle.opt_frac.proofs.Steps.{mul_comm, mul_swap, product_positive}
+use Rattle.opt_simplex.specs.Tableau.{equation_at}
 use Rattle.opt_simplex.specs.Choice.{fraction, fraction_of}
-use Rattle.opt_simplex.proofs.Regular.{equation_at}
 
 -- whole numbers, which are scale times the values: of basic variables those over their leads, of the others those at
 -- which they rest

@@ -19,10 +19,9 @@ use Rattle.opt_frac.proofs.TermSums.{more_before, more_after}
 use Rattle.opt_frac.proofs.Shapes.{rising-negated_if, no_zero-negated_if}
 use Rattle.opt_frac.proofs.NeatSteps.{IsNeat, neat-whole}
 use Rattle.opt_simplex.specs.Kept.{AreRaw, IsFraction}
-use Rattle.opt_simplex.specs.Tableau.{Tableau, at_rows, cost_multipliers, empty_multipliers}
+use Rattle.opt_simplex.specs.Tableau.{Tableau, at_rows, cost_multipliers, empty_multipliers, equation_at}
 use Rattle.opt_simplex.specs.Choice.{fraction, fraction_of, point_of}
 use Rattle.opt_simplex.proofs.Bridge.{All-at_rows}
-use Rattle.opt_simplex.proofs.Regular.{equation_at}
 
 -- ---- entries of rows' sums
 pub rising-at_rows : (n : ℕ) (es : List (ℕ × ℤ)) → IsRising es → IsRising (at_rows n es)
@@ -61,7 +60,7 @@ fits-negated_if true es h =
 fits-negated_if false es h = h
 
 -- one entry more, at a number that no other entry has
-values-more : (P : ℤ → Type 0) (a : ℕ × ℤ) (es : List (ℕ × ℤ)) → All (λ e. e.0 ≢ a.0) es → P a.1 → All (λ e. P e.1) es → All (λ e. P e.1) (more a es)
+pub values-more : (P : ℤ → Type 0) (a : ℕ × ℤ) (es : List (ℕ × ℤ)) → All (λ e. e.0 ≢ a.0) es → P a.1 → All (λ e. P e.1) es → All (λ e. P e.1) (more a es)
 values-more P a [] apart h k = All-cons (λ e. P e.1) a [] h k
 values-more P a (e ∷ es) apart h k =
     let head : P e.1 = All-head (λ d. P d.1) e es k in

@@ -1,5 +1,5 @@
 -- What each tableau keeps.
-use Rattle.std.proofs.Common.{◌≡◌, ◌≢◌, ◌↔◌, ℕ, ◌+◌, ◌<◌, true, List, [], ◌∷◌, length, get_or, ℤ, pos}
+use Rattle.std.proofs.Common.{◌≡◌, ◌≢◌, ◌↔◌, ℕ, ◌+◌, ◌<◌, true, List, ◌∷◌, length, ℤ, pos}
 use Rattle.opt_sums.specs.Entries.{coef}
 use Rattle.opt_system.specs.Ranges.{Range}
 use Rattle.opt_system.specs.Systems.{System}
@@ -7,14 +7,10 @@ use Rattle.opt_frac.specs.Equations.{Equation}
 use Rattle.opt_frac.proofs.Steps.{gap}
 use Rattle.opt_frac.proofs.NeatSteps.{IsNeat}
 use Rattle.opt_simplex.specs.Variables.{variables_of, low_of, high_of, rests_high, resting}
-use Rattle.opt_simplex.specs.Tableau.{Tableau}
+use Rattle.opt_simplex.specs.Tableau.{Tableau, equation_at}
 use Rattle.opt_simplex.proofs.Meeting.{MeetsStart}
 use Rattle.opt_simplex.proofs.Bridge.{Suits}
 use Rattle.opt_simplex.proofs.Suiting.{IsThere}
-
--- equation i, or an empty one past the end
-abbrev pub equation_at : List Equation → ℕ → Equation
-equation_at es i = get_or es i (record { basic = 0; lead = pos 1; terms = [] })
 
 -- the cost equation and the others
 abbrev pub all_of : Tableau → List Equation

@@ -19,10 +19,10 @@ use Rattle.opt_frac.specs.Equations.{Equation}
 use Rattle.opt_frac.proofs.Steps.{gap}
 use Rattle.opt_frac.proofs.NeatSteps.{IsNeat}
 use Rattle.opt_simplex.specs.Variables.{rests_high}
-use Rattle.opt_simplex.specs.Tableau.{row_equations, not_zeros, start}
+use Rattle.opt_simplex.specs.Tableau.{row_equations, not_zeros, start, equation_at}
 use Rattle.opt_simplex.proofs.Meeting.{MeetsStart, cost_entries, coef-cost_entries, AllBelow-cost_entries}
 use Rattle.opt_simplex.proofs.Bridge.{IsFitBox}
-use Rattle.opt_simplex.proofs.Regular.{equation_at, all_of, MeetsAll, variables, IsRegular}
+use Rattle.opt_simplex.proofs.Regular.{all_of, MeetsAll, variables, IsRegular}
 
 -- what is needed of the system beyond the box: its rows are even and its costs are at least 0
 pub record IsFit (p : System) (box : Range) : Type 0 where
@@ -34,7 +34,7 @@ pub record IsFit (p : System) (box : Range) : Type 0 where
 abbrev row_equation : ℕ → List Row → ℕ → Equation
 row_equation k rows i = record { basic = k + i; lead = pos 1; terms = (row_at rows i).terms }
 
-length-row_equations : (k : ℕ) (rows : List Row) → length (row_equations k rows) ≡ length rows
+pub length-row_equations : (k : ℕ) (rows : List Row) → length (row_equations k rows) ≡ length rows
 length-row_equations k [] = refl
 length-row_equations k (row ∷ rows) = ap suc (length-row_equations (k + 1) rows)
 
@@ -57,7 +57,7 @@ enumerate_rising s [] = IsRising-nil
 enumerate_rising s (x ∷ xs) =
     IsRising-cons (s, x) (enumerate_from (s + 1) xs) (enumerate_after s (s + 1) xs (omega arith)) (enumerate_rising (s + 1) xs)
 
-not_zeros-none : (es : List (ℕ × ℤ)) → HasNoZero (not_zeros es)
+pub not_zeros-none : (es : List (ℕ × ℤ)) → HasNoZero (not_zeros es)
 not_zeros-none [] = All-nil (λ e. e.1 ≢ pos 0)
 not_zeros-none (e ∷ es) =
     elim (cases_eq (unsigned_abs e.1) 0) [
@@ -66,7 +66,7 @@ not_zeros-none (e ∷ es) =
           rw (ne_eqb (unsigned_abs e.1) 0 z) (All-cons (λ d. d.1 ≢ pos 0) e (not_zeros es) (λ same. z (ap unsigned_abs same)) (not_zeros-none es))
     ]
 
-cost_rising : (p : System) → IsRising (cost_entries p)
+pub cost_rising : (p : System) → IsRising (cost_entries p)
 cost_rising p = AllPairs-filter (λ e d. e.0 < d.0) (λ e. not (unsigned_abs e.1 == 0)) (enumerate_from 0 p.cost) (enumerate_rising 0 p.cost)
 
 no_flag : (n k : ℕ) → rests_high (replicate n false) k ≡ false

@@ -11,9 +11,9 @@ use Rattle.opt_frac.specs.Elimination.{turned, eliminated}
 use Rattle.opt_simplex.specs.declared.end.Why.{Why}
 use Rattle.opt_simplex.specs.declared.end.Why.TheVariants.{Fill}
 use Rattle.opt_simplex.specs.Choice.{Leaving}
-use Rattle.opt_simplex.specs.Tableau.{Tableau, stored}
+use Rattle.opt_simplex.specs.Tableau.{Tableau, stored, equation_at}
 use Rattle.opt_simplex.specs.Pivot.{Treated, Swept, within_fill, replacing, treated, treated_at, swept, pivoted}
-use Rattle.opt_simplex.proofs.Regular.{equation_at, all_of}
+use Rattle.opt_simplex.proofs.Regular.{all_of}
 
 -- the equation is as it was, since it has no term at the basic variable of the turned one, or that one is eliminated
 pub record IsTreated (by old new : Equation) : Type 0 where

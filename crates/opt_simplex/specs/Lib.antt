@@ -5,3 +5,5 @@ pub mod Choice
 pub mod Pivot
 pub mod Rule
 pub mod Soundness
+pub mod Shape
+pub mod Outcomes

@@ -1,5 +1,5 @@
 -- The equations that the simplex keeps, those that it begins with, and the multipliers that they give.
-use Rattle.std.specs.Prelude.{ℕ, ◌+◌, ◌-◌, ◌==◌, List, [], ◌∷◌, Bool, false, not, map, filter, length, replicate, ℤ, pos, unsigned_abs, nat_le, sum_by}
+use Rattle.std.specs.Prelude.{ℕ, ◌+◌, ◌-◌, ◌==◌, List, [], ◌∷◌, Bool, false, not, map, filter, length, replicate, ℤ, pos, unsigned_abs, nat_le, sum_by, slice_index_or}
 use Rattle.std.specs.List.{enumerate_from}
 use Rattle.opt_system.specs.declared.rows.Row.{Row}
 use Rattle.opt_system.specs.Systems.{System}
@@ -13,6 +13,10 @@ pub record Tableau : Type 0 where
   pub equations : List Equation
   pub cost : Equation
   pub at_high : List Bool
+
+-- equation i, or an empty one past the end
+abbrev pub equation_at : List Equation → ℕ → Equation
+equation_at es i = slice_index_or es i (record { basic = 0; lead = pos 1; terms = [] })
 
 -- the equations of the rows' sums, from variable k on
 abbrev pub row_equations : ℕ → List Row → List Equation

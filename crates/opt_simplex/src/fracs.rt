@@ -21,6 +21,14 @@ impl Fracs {
     ghost use Rattle.std.specs.Prelude.{◌≡◌, All};
     ghost use Rattle.opt_simplex.specs.Kept.{IsFraction};
 
+    /// These fractions.
+    pub(crate) fn new(fractions: Vec<(i128, i128)>) -> Fracs
+        requires { All IsFraction fractions.items }
+        ensures { result ≡ fractions.items }
+    {
+        Fracs { fractions }
+    }
+
     /// The fractions, as numerator and denominator.
     pub fn as_slice(&self) -> &[(i128, i128)]
         ensures value { result.now ≡ self.now }

@@ -2,10 +2,26 @@
 //! relaxation.
 #![tactic(auto)]
 
+mod choice;
 mod end;
 mod fracs;
+mod limits;
+mod multipliers;
+mod pivot;
+mod point;
 mod raw;
+mod simplex;
+mod start;
+mod tableau;
+mod values;
+mod variables;
 
 pub use end::{LpEnd, Why};
 pub use fracs::Fracs;
 pub use raw::Raw;
+pub use simplex::solve;
+
+#[cfg(test)]
+mod cases;
+#[cfg(test)]
+mod tests;

@@ -23,6 +23,14 @@ impl Model for Raw {
 impl Raw {
     ghost use Rattle.opt_simplex.specs.Kept.{AreRaw};
 
+    /// These multipliers.
+    pub(crate) fn new(q: i128, entries: Vec<(u32, i128)>) -> Raw
+        requires { AreRaw (record { q = q; entries = entries.items }) }
+        ensures { result ≡ record { q = q; entries = entries.items } }
+    {
+        Raw { q, entries }
+    }
+
     /// How often the objective is taken, at least 0.
     pub fn q(&self) -> i128
         ensures value { result ≡ self.now.q }

@@ -1,0 +1,68 @@
+use Rattle.std.proofs.Common.{◌≡◌, ◌+◌, refl, arith}
+use Rattle.std.proofs.lemmas.Result.{IfOk-weaker}
+use Rattle.opt_simplex.specs.Variables.{variables_of}
+use Rattle.opt_simplex.specs.Rule.{looked, turns, end_of}
+use Rattle.opt_simplex.specs.Outcomes.{turn_of}
+use Rattle.opt_simplex.specs.Soundness.{IsSound}
+use Rattle.opt_simplex.proofs.TurnSteps.{running-start, running-shaped, running-few, running-may, running-next, running-ends, running-last, running-at, running-of, end-sound, turned-some, turned-none}
+use Rattle.opt_simplex.proofs.simplex.solve.Goals as goal
+
+pub loop-done-init : goal.loop-done-init
+loop-done-init c =
+    running-start c.args.system.now c.args.range.now c.in_ok-variables.ensures.limited c.in_ok-variables.ensures.ordered c.requires c.args.pivots (variables_of c.args.system.now c.args.range.now) c.in_ok-tableau.tableau refl c.in_ok-tableau.ensures
+
+pub turn-requires-clause-shaped : goal.turn-requires-clause-shaped
+turn-requires-clause-shaped c =
+    running-shaped c.args.system.now c.args.range.now c.in_ok-variables.ensures.limited c.in_ok-variables.ensures.ordered c.requires c.args.pivots c.in_ok-variables.variables c.loop-done.done c.loop-done.tableau
+    (running-at c.args.system.now c.args.range.now c.args.pivots c.in_ok-variables.variables c.loop-done.done c.loop-done.tableau c.in_ok-variables.ensures.value c.loop-done.invariant)
+
+pub turn-requires-clause-few : goal.turn-requires-clause-few
+turn-requires-clause-few c =
+    running-few c.args.system.now c.args.range.now c.in_ok-variables.ensures.limited c.in_ok-variables.ensures.ordered c.requires c.args.pivots c.in_ok-variables.variables c.loop-done.done c.loop-done.tableau
+    (running-at c.args.system.now c.args.range.now c.args.pivots c.in_ok-variables.variables c.loop-done.done c.loop-done.tableau c.in_ok-variables.ensures.value c.loop-done.invariant)
+
+pub turn-requires-clause-may : goal.turn-requires-clause-may
+turn-requires-clause-may c =
+    running-may c.args.system.now c.args.range.now c.in_ok-variables.ensures.limited c.in_ok-variables.ensures.ordered c.requires c.args.pivots c.in_ok-variables.variables c.loop-done.done c.loop-done.tableau
+    (running-at c.args.system.now c.args.range.now c.args.pivots c.in_ok-variables.variables c.loop-done.done c.loop-done.tableau c.in_ok-variables.ensures.value c.loop-done.invariant)
+
+pub last-requires : goal.last-requires
+last-requires c =
+    running-shaped c.args.system.now c.args.range.now c.in_ok-variables.ensures.limited c.in_ok-variables.ensures.ordered c.requires c.args.pivots c.in_ok-variables.variables c.loop-done.done c.loop-done.tableau
+    (running-at c.args.system.now c.args.range.now c.args.pivots c.in_ok-variables.variables c.loop-done.done c.loop-done.tableau c.in_ok-variables.ensures.value c.loop-done.invariant)
+
+pub loop-done-preserved : goal.loop-done-preserved
+loop-done-preserved c =
+    running-of c.args.system.now c.args.range.now c.args.pivots c.in_ok-variables.variables (c.loop-done.done + 1) c.turn.new.tableau
+    (running-next c.args.system.now c.args.range.now c.in_ok-variables.ensures.limited c.in_ok-variables.ensures.ordered c.requires c.args.pivots c.in_ok-variables.variables c.loop-done.done c.loop-done.tableau c.turn.new.tableau
+    (running-at c.args.system.now c.args.range.now c.args.pivots c.in_ok-variables.variables c.loop-done.done c.loop-done.tableau c.in_ok-variables.ensures.value c.loop-done.invariant) c.loop-done-test.true
+    (turned-none c.in_ok-end.field-0 c.turn.new.tableau (turn_of c.in_ok-variables.variables c.loop-done.done c.loop-done.tableau (looked c.in_ok-variables.variables c.loop-done.done c.loop-done.tableau)) c.in-None.is c.in_ok-end.ensures.turned)
+    c.in_ok-end.ensures.same_length)
+
+pub returns-in-Some-clause-end : goal.returns-in-Some-clause-end
+returns-in-Some-clause-end c =
+    running-ends c.args.system.now c.args.range.now c.in_ok-variables.ensures.limited c.in_ok-variables.ensures.ordered c.requires c.args.pivots c.in_ok-variables.variables c.loop-done.done c.loop-done.tableau c.in-Some.end
+    (running-at c.args.system.now c.args.range.now c.args.pivots c.in_ok-variables.variables c.loop-done.done c.loop-done.tableau c.in_ok-variables.ensures.value c.loop-done.invariant) c.loop-done-test.true
+    (turned-some c.in_ok-end.field-0 c.in-Some.end c.turn.new.tableau (turn_of c.in_ok-variables.variables c.loop-done.done c.loop-done.tableau (looked c.in_ok-variables.variables c.loop-done.done c.loop-done.tableau)) c.in-Some.is c.in_ok-end.ensures.turned)
+
+pub returns-in-Some-clause-sound : goal.returns-in-Some-clause-sound
+returns-in-Some-clause-sound c =
+    end-sound c.args.system.now c.args.range.now c.in_ok-variables.ensures.limited c.in_ok-variables.ensures.ordered c.requires c.args.pivots c.in-Some.end
+    (running-ends c.args.system.now c.args.range.now c.in_ok-variables.ensures.limited c.in_ok-variables.ensures.ordered c.requires c.args.pivots c.in_ok-variables.variables c.loop-done.done c.loop-done.tableau c.in-Some.end
+    (running-at c.args.system.now c.args.range.now c.args.pivots c.in_ok-variables.variables c.loop-done.done c.loop-done.tableau c.in_ok-variables.ensures.value c.loop-done.invariant) c.loop-done-test.true
+    (turned-some c.in_ok-end.field-0 c.in-Some.end c.turn.new.tableau (turn_of c.in_ok-variables.variables c.loop-done.done c.loop-done.tableau (looked c.in_ok-variables.variables c.loop-done.done c.loop-done.tableau)) c.in-Some.is c.in_ok-end.ensures.turned))
+
+pub returns-clause-end : goal.returns-clause-end
+returns-clause-end c =
+    IfOk-weaker c.last.result (λ end. end ≡ turns c.in_ok-variables.variables 0 c.args.pivots c.loop-done.tableau) (λ end. end ≡ end_of c.args.system.now c.args.range.now c.args.pivots)
+    (λ end h. running-last c.args.system.now c.args.range.now c.in_ok-variables.ensures.limited c.in_ok-variables.ensures.ordered c.requires c.args.pivots c.in_ok-variables.variables c.loop-done.done c.loop-done.tableau end
+    (running-at c.args.system.now c.args.range.now c.args.pivots c.in_ok-variables.variables c.loop-done.done c.loop-done.tableau c.in_ok-variables.ensures.value c.loop-done.invariant) (omega (arith, c.loop-done-test.false, c.loop-done.auto.done-end)) h)
+    c.last.ensures
+
+pub returns-clause-sound : goal.returns-clause-sound
+returns-clause-sound c =
+    IfOk-weaker c.last.result (λ end. end ≡ turns c.in_ok-variables.variables 0 c.args.pivots c.loop-done.tableau) (IsSound c.args.system.now c.args.range.now)
+    (λ end h. end-sound c.args.system.now c.args.range.now c.in_ok-variables.ensures.limited c.in_ok-variables.ensures.ordered c.requires c.args.pivots end
+    (running-last c.args.system.now c.args.range.now c.in_ok-variables.ensures.limited c.in_ok-variables.ensures.ordered c.requires c.args.pivots c.in_ok-variables.variables c.loop-done.done c.loop-done.tableau end
+    (running-at c.args.system.now c.args.range.now c.args.pivots c.in_ok-variables.variables c.loop-done.done c.loop-done.tableau c.in_ok-variables.ensures.value c.loop-done.invariant) (omega (arith, c.loop-done-test.false, c.loop-done.auto.done-end)) h))
+    c.last.ensures

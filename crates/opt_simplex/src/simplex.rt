@@ -1,0 +1,223 @@
+ghost use Rattle.std.specs.Prelude.{◌≡◌, ◌<◌, ◌≤◌, All, None, length, IfOk};
+ghost use Rattle.opt_system.specs.Ranges.{LiesIn};
+ghost use Rattle.opt_frac.specs.Divisors.{Fits};
+ghost use Rattle.opt_simplex.specs.Choice.{entering_from, leaving_from};
+ghost use Rattle.opt_simplex.specs.Outcomes.{Turns, leaving_at, look_at, pivot_of, turn_of};
+ghost use Rattle.opt_simplex.specs.Pivot.{pivoted};
+ghost use Rattle.opt_simplex.specs.Rule.{Ends, end_of, entering as entering_of, leaving as leaving_of, looked, stopped as stopped_of, turns};
+ghost use Rattle.opt_simplex.specs.Shape.{IsShaped, MayPivot, MayTurn};
+ghost use Rattle.opt_simplex.specs.Soundness.{IsSound};
+
+use crate::choice::{Leaving, choose_entering, choose_leaving};
+use crate::end::{LpEnd, Why};
+use crate::limits::VARIABLE_LIMIT;
+use crate::multipliers::{cost_multipliers, empty_multipliers};
+use crate::pivot::PivotFault;
+use crate::point::point;
+use crate::tableau::Tableau;
+use crate::values::values;
+use crate::variables::Variables;
+use opt_base::OutOfMemory;
+use opt_system::{Range, System};
+use std::alloc::Global;
+
+/// What a tableau asks for: the end, or a pivot.
+#[derive(Debug, Drop)]
+pub(crate) enum Look {
+    /// The end is here.
+    Ends(LpEnd),
+    /// The variable of this column enters the basis for the leaving one.
+    Enters(Leaving, u32),
+}
+
+/// The simplex stops here, with the multipliers of the cost equation.
+fn stop(
+    alloc: Global,
+    variables: &Variables,
+    tableau: &Tableau,
+    why: Why,
+    done: u32,
+) -> Result<LpEnd, OutOfMemory>
+    ensures { IfOk result (λ end. end ≡ stopped_of variables.now why done tableau.now) }
+{
+    let raw = cost_multipliers(alloc, variables.quantities(), tableau.cost())?;
+    Ok(LpEnd::Stopped { why, done, raw })
+}
+
+/// No variable leaves the basis: the point is optimal.
+fn optimal(
+    alloc: Global,
+    variables: &Variables,
+    tableau: &Tableau,
+    values: &[i128],
+    done: u32,
+) -> Result<LpEnd, OutOfMemory>
+    requires shaped { IsShaped (length variables.now.low) tableau.now }
+    requires each { length values.now ≡ length tableau.now.equations }
+    requires fit { All Fits values.now }
+    ensures { IfOk result (λ end. Ends end ≡ leaving_of variables.now done tableau.now values.now None) }
+{
+    let point = point(
+        alloc,
+        variables,
+        tableau.at_high(),
+        tableau.equations(),
+        values,
+    )?;
+    let raw = cost_multipliers(alloc, variables.quantities(), tableau.cost())?;
+    Ok(LpEnd::Optimal { point, raw, done })
+}
+
+/// The variable that enters the basis for the leaving one, or the box is empty.
+fn enter(
+    alloc: Global,
+    variables: &Variables,
+    tableau: &Tableau,
+    leaving: Leaving,
+    done: u32,
+) -> Result<Look, OutOfMemory>
+    requires shaped { IsShaped (length variables.now.low) tableau.now }
+    requires inside { leaving.position < length tableau.now.equations }
+    ensures { let l = leaving_at tableau.now.equations leaving in
+        let chosen = entering_from variables.now tableau.now.at_high l.below tableau.now.cost None l.equation.terms in
+        IfOk result (λ look. look_at tableau.now.equations look ≡ entering_of variables.now done l chosen) }
+{
+    let equation = &tableau.equations()[leaving.position];
+    match choose_entering(
+        variables,
+        tableau.at_high(),
+        leaving.below,
+        tableau.cost(),
+        equation,
+    ) {
+        Some(term) => Ok(Look::Enters(leaving, term.0)),
+        None => {
+            let raw = empty_multipliers(alloc, variables.quantities(), leaving.below, equation)?;
+            Ok(Look::Ends(LpEnd::Empty { raw, done }))
+        }
+    }
+}
+
+/// What the tableau with these values asks for after so many pivots.
+fn choose(
+    alloc: Global,
+    variables: &Variables,
+    tableau: &Tableau,
+    values: &[i128],
+    done: u32,
+) -> Result<Look, OutOfMemory>
+    requires shaped { IsShaped (length variables.now.low) tableau.now }
+    requires each { length values.now ≡ length tableau.now.equations }
+    requires fit { All Fits values.now }
+    ensures { let chosen = leaving_from variables.now 0 None tableau.now.equations values.now in
+        IfOk result (λ look. look_at tableau.now.equations look ≡ leaving_of variables.now done tableau.now values.now chosen) }
+{
+    match choose_leaving(variables, tableau.equations(), values) {
+        Some(leaving) => enter(alloc, variables, tableau, leaving, done),
+        None => Ok(Look::Ends(optimal(alloc, variables, tableau, values, done)?)),
+    }
+}
+
+/// What the tableau asks for after so many pivots.
+fn ask(
+    alloc: Global,
+    variables: &Variables,
+    tableau: &Tableau,
+    done: u32,
+) -> Result<Look, OutOfMemory>
+    requires { IsShaped (length variables.now.low) tableau.now }
+    ensures { IfOk result (λ look. look_at tableau.now.equations look ≡ looked variables.now done tableau.now) }
+{
+    match values(alloc, variables, tableau.at_high(), tableau.equations())? {
+        Some(values) => choose(alloc, variables, tableau, &values, done),
+        None => Ok(Look::Ends(stop(alloc, variables, tableau, Why::Wide, done)?)),
+    }
+}
+
+/// Makes the pivot, after so many; or gives the end where it stops there.
+fn pivot(
+    alloc: Global,
+    variables: &Variables,
+    tableau: &mut Tableau,
+    leaving: Leaving,
+    col: u32,
+    done: u32,
+    buffer: &mut Vec<(u32, i128)>,
+) -> Result<Option<LpEnd>, OutOfMemory>
+    requires shaped { IsShaped (length variables.now.low) tableau.old }
+    requires few { length variables.now.low ≤ VARIABLE_LIMIT }
+    requires may { MayPivot tableau.old leaving.position col }
+    ensures pivoted { IfOk result (λ end. Turns end tableau.new
+        (pivot_of variables.now done tableau.old (pivoted tableau.old (leaving_at tableau.old.equations leaving) col))) }
+    ensures same_length { length tableau.new.equations ≡ length tableau.old.equations }
+{
+    match tableau.pivot(alloc, leaving, col, buffer) {
+        Ok(()) => Ok(None),
+        Err(PivotFault::Stops(why)) => Ok(Some(stop(alloc, variables, tableau, why, done)?)),
+        Err(PivotFault::OutOfMemory) => Err(OutOfMemory),
+    }
+}
+
+/// One turn after so many pivots: the end where it is reached, and otherwise a pivot was made.
+fn turn(
+    alloc: Global,
+    variables: &Variables,
+    tableau: &mut Tableau,
+    done: u32,
+    buffer: &mut Vec<(u32, i128)>,
+) -> Result<Option<LpEnd>, OutOfMemory>
+    requires shaped { IsShaped (length variables.now.low) tableau.old }
+    requires few { length variables.now.low ≤ VARIABLE_LIMIT }
+    requires may { MayTurn variables.now done tableau.old }
+    ensures turned { IfOk result (λ end. Turns end tableau.new
+        (turn_of variables.now done tableau.old (looked variables.now done tableau.old))) }
+    ensures same_length { length tableau.new.equations ≡ length tableau.old.equations }
+{
+    match ask(alloc, variables, tableau, done)? {
+        Look::Ends(end) => Ok(Some(end)),
+        Look::Enters(leaving, col) => pivot(alloc, variables, tableau, leaving, col, done, buffer),
+    }
+}
+
+/// The end at the limit of pivots.
+fn last(
+    alloc: Global,
+    variables: &Variables,
+    tableau: &Tableau,
+    done: u32,
+) -> Result<LpEnd, OutOfMemory>
+    requires { IsShaped (length variables.now.low) tableau.now }
+    ensures { IfOk result (λ end. end ≡ turns variables.now 0 done tableau.now) }
+{
+    match ask(alloc, variables, tableau, done)? {
+        Look::Ends(end) => Ok(end),
+        Look::Enters(_, _) => stop(alloc, variables, tableau, Why::Pivots, done),
+    }
+}
+
+/// The end that the written simplex reaches on the box from the basis of the rows' sums, with at most this many pivots.
+///
+/// The box lies within the system's root. The rule is that of the bounded dual simplex with exact fractions: the least
+/// variable that is out of its range leaves the basis, and of the variables that can help it the one of the least ratio
+/// enters, the first of equal ones.
+pub fn solve(
+    alloc: Global,
+    system: &System,
+    range: &Range,
+    pivots: u32,
+) -> Result<LpEnd, OutOfMemory>
+    requires { LiesIn system.now.root range.now }
+    ensures end { IfOk result (λ end. end ≡ end_of system.now range.now pivots) }
+    ensures sound { IfOk result (IsSound system.now range.now) }
+{
+    let variables = Variables::new(alloc, system, range)?;
+    let mut tableau = Tableau::start(alloc, system)?;
+    let mut buffer = Vec::new(alloc);
+    for done in 0..pivots {
+        match turn(alloc, &variables, &mut tableau, done, &mut buffer)? {
+            Some(end) => return Ok(end),
+            None => {}
+        }
+    }
+    last(alloc, &variables, &tableau, pivots)
+}
