@@ -1,0 +1,11 @@
+pub mod PiecesLemmas
+pub mod NumberLemmas
+pub mod JudgeLemmas
+pub mod EntryLemmas
+pub mod RangeLemmas
+pub mod StandLemmas
+pub mod ReadLemmas
+pub mod StepLemmas
+pub mod DecimalLemmas
+pub mod WordLemmas
+pub mod VerdictLemmas

@@ -1,0 +1,11 @@
+pub mod Numbers
+pub mod Texts
+pub mod Forms
+pub mod Ranges
+pub mod Judging
+pub mod Kinds
+pub mod Reading
+pub mod Stands
+pub mod Steps
+pub mod Forests
+pub mod Codes
