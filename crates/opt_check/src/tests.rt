@@ -1,0 +1,101 @@
+mod cases;
+mod rice;
+
+use crate::{BytesFault, check_bytes, line_of_cert_fault, line_of_check_fault};
+use cases::{CASES, Case};
+use opt_base::{ModelFault, OutOfMemory};
+use opt_sums::{has_no_zero, is_rising};
+use opt_system::{Range, RowKind, RowList, System};
+use opt_tree::Verdict;
+use std::alloc::Global;
+use std::process::Abort;
+use std::test::Fail;
+
+/// Adds the row, or ends the test where its terms do not go by rising quantity without a 0.
+fn push(
+    rt: &impl Abort,
+    rows: &mut RowList,
+    kind: RowKind,
+    right: i64,
+    terms: &[(u32, i64)],
+) -> Result<(), OutOfMemory> {
+    let rising = is_rising(terms);
+    assert!(rt; rising);
+    let no_zero = has_no_zero(terms);
+    assert!(rt; no_zero);
+    rows.push(kind, right, terms)
+}
+
+/// The system of these rows, or ends the test where its numbers are too great.
+fn system(
+    rt: &impl Abort,
+    alloc: Global,
+    rows: &RowList,
+    low: &[i64],
+    high: &[i64],
+    costs: &[i64],
+) -> Result<System, ModelFault> {
+    let ordered = Range::is_ordered(low, high);
+    assert!(rt; ordered);
+    let root = Range::new(alloc, low, high)?;
+    let small = System::are_small(rows, &root, costs);
+    assert!(rt; small);
+    System::from_rows(alloc, rows, &root, costs)
+}
+
+/// What `check_bytes` answers of the text, or ends the test where the text is too long or the terms are none.
+fn check_text(
+    rt: &impl Abort,
+    alloc: Global,
+    system: &System,
+    gap: i64,
+    limit: u32,
+    text: &str,
+) -> Result<(Verdict, u32), BytesFault> {
+    let bytes = text.as_bytes();
+    assert!(rt; bytes.len() < 4_294_967_296);
+    assert!(rt; gap >= 0);
+    assert!(rt; limit >= 1 && limit <= 1_000_000);
+    check_bytes(alloc, system, gap, limit, bytes)
+}
+
+/// The line that is printed of the fault, or none where the text shows its verdict.
+fn refusal(
+    alloc: Global,
+    answer: Result<(Verdict, u32), BytesFault>,
+) -> Result<String, OutOfMemory> {
+    match answer {
+        Ok(_) => Ok("".to_string(alloc)?),
+        Err(BytesFault::Cert(fault)) => Ok(line_of_cert_fault(alloc, fault)?),
+        Err(BytesFault::Check(fault)) => Ok(line_of_check_fault(alloc, fault)?),
+        Err(BytesFault::OutOfMemory) => Err(OutOfMemory),
+    }
+}
+
+/// The system of a case.
+fn system_of_case(rt: &impl Abort, alloc: Global, case: &Case) -> Result<System, ModelFault> {
+    let mut rows = RowList::new(alloc);
+    for row in case.rows {
+        push(rt, &mut rows, row.0, row.1, row.2)?;
+    }
+    system(rt, alloc, &rows, case.low, case.high, case.costs)
+}
+
+/// Certificates that an independent search wrote are accepted, and refused with another bound or another value.
+#[test]
+fn certificates_of_another_search(rt: HostRuntime) -> Result<(), Fail> {
+    let alloc = rt.alloc();
+    for case in &CASES {
+        let system = system_of_case(&rt, alloc, case)?;
+        let text = format!(in alloc; "optimus-certificate 1\n{}\n{}", case.claim, case.proof)?;
+        let answer = check_text(&rt, alloc, &system, case.gap, case.limit, text.as_str());
+        assert!(rt; answer == Ok((case.verdict, case.nodes)));
+        for (claim, line) in case.refused {
+            let text = format!(in alloc; "optimus-certificate 1\n{claim}\n{}", case.proof)?;
+            let answer = check_text(&rt, alloc, &system, case.gap, case.limit, text.as_str());
+            let printed = refusal(alloc, answer)?;
+            assert_eq!(rt; printed.as_str(), *line);
+        }
+    }
+    Ok(())
+}
