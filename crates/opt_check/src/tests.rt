@@ -1,9 +1,11 @@
 mod cases;
+mod deep;
 mod rice;
 
-use crate::{BytesFault, check_bytes, line_of_cert_fault, line_of_check_fault};
+use crate::{BytesFault, check, check_bytes, line_of_cert_fault, line_of_check_fault};
 use cases::{CASES, Case};
 use opt_base::{ModelFault, OutOfMemory};
+use opt_cert::read;
 use opt_sums::{has_no_zero, is_rising};
 use opt_system::{Range, RowKind, RowList, System};
 use opt_tree::Verdict;
@@ -59,6 +61,23 @@ fn check_text(
     check_bytes(alloc, system, gap, limit, bytes)
 }
 
+/// What `check` answers of the certificate that is read from the text.
+fn check_read(
+    rt: &impl Abort,
+    alloc: Global,
+    system: &System,
+    gap: i64,
+    limit: u32,
+    text: &str,
+) -> Result<Verdict, BytesFault> {
+    let bytes = text.as_bytes();
+    assert!(rt; bytes.len() < 4_294_967_296);
+    assert!(rt; gap >= 0);
+    assert!(rt; limit >= 1 && limit <= 1_000_000);
+    let cert = read(alloc, bytes)?;
+    check(alloc, system, gap, limit, &cert).map_err(BytesFault::Check)
+}
+
 /// The line that is printed of the fault, or none where the text shows its verdict.
 fn refusal(
     alloc: Global,
@@ -90,6 +109,8 @@ fn certificates_of_another_search(rt: HostRuntime) -> Result<(), Fail> {
         let text = format!(in alloc; "optimus-certificate 1\n{}\n{}", case.claim, case.proof)?;
         let answer = check_text(&rt, alloc, &system, case.gap, case.limit, text.as_str());
         assert!(rt; answer == Ok((case.verdict, case.nodes)));
+        let answer = check_read(&rt, alloc, &system, case.gap, case.limit, text.as_str());
+        assert!(rt; answer == Ok(case.verdict));
         for (claim, line) in case.refused {
             let text = format!(in alloc; "optimus-certificate 1\n{claim}\n{}", case.proof)?;
             let answer = check_text(&rt, alloc, &system, case.gap, case.limit, text.as_str());
