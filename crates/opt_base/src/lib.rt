@@ -1,4 +1,5 @@
-//! What every crate of Optimus stands on: refusals and their places, want of memory, plain data, and the outside by its traits.
+//! What every crate of Optimus stands on: refusals and their places, want of memory, plain data, and the outside by
+//! its traits.
 #![tactic(auto)]
 
 mod blob;

@@ -39,8 +39,10 @@ impl MemShelf {
 
     /// Makes the path hold these bytes, and counts as no call. After an error the path is as before.
     pub fn load(&mut self, path: &str, bytes: &[u8]) -> Result<(), OutOfMemory>
-        ensures ok { OnOk result (⟦<MemShelf as Shelf>⟧.files self.new ≡ option_map (written path.now bytes.now) (⟦<MemShelf as Shelf>⟧.files self.old)) }
-        ensures err { OnErr result (⟦<MemShelf as Shelf>⟧.files self.new ≡ ⟦<MemShelf as Shelf>⟧.files self.old) }
+        ensures ok { OnOk result (⟦<MemShelf as Shelf>⟧.files self.new
+            ≡ option_map (written path.now bytes.now) (⟦<MemShelf as Shelf>⟧.files self.old)) }
+        ensures err { OnErr result (⟦<MemShelf as Shelf>⟧.files self.new
+            ≡ ⟦<MemShelf as Shelf>⟧.files self.old) }
         ensures uncounted { calls_of_shelf self.new ≡ calls_of_shelf self.old }
     {
         self.shelf.load(path, bytes)
@@ -60,7 +62,8 @@ impl Shelf for MemShelf {
         ensures found { IfOk result (IsFound (⟦<MemShelf as Shelf>⟧.files self.old) path.now max) }
         ensures at_most { IfOk result (IsWithin max) }
         ensures same { ⟦<MemShelf as Shelf>⟧.files self.new ≡ ⟦<MemShelf as Shelf>⟧.files self.old }
-        ensures cause { HasCause GetFault.Failed (⟦<MemShelf as Shelf>⟧.count self.old) (⟦<MemShelf as Shelf>⟧.count self.new) result }
+        ensures cause { HasCause GetFault.Failed
+            (⟦<MemShelf as Shelf>⟧.count self.old) (⟦<MemShelf as Shelf>⟧.count self.new) result }
         ensures script { IsScripted GetFault.Failed (calls_of_shelf self.old) (calls_of_shelf self.new) result }
     {
         if self.calls.next_fails() {
@@ -70,10 +73,14 @@ impl Shelf for MemShelf {
     }
 
     fn put(&mut self, path: &str, bytes: &[u8]) -> Result<(), PutFault>
-        ensures ok { OnOk result (⟦<MemShelf as Shelf>⟧.files self.new ≡ option_map (written path.now bytes.now) (⟦<MemShelf as Shelf>⟧.files self.old)) }
-        ensures others { option_map (without path.now) (⟦<MemShelf as Shelf>⟧.files self.new) ≡ option_map (without path.now) (⟦<MemShelf as Shelf>⟧.files self.old) }
-        ensures err { OnErr result (⟦<MemShelf as Shelf>⟧.files self.new ≡ ⟦<MemShelf as Shelf>⟧.files self.old) }
-        ensures cause { HasCause PutFault.Failed (⟦<MemShelf as Shelf>⟧.count self.old) (⟦<MemShelf as Shelf>⟧.count self.new) result }
+        ensures ok { OnOk result (⟦<MemShelf as Shelf>⟧.files self.new
+            ≡ option_map (written path.now bytes.now) (⟦<MemShelf as Shelf>⟧.files self.old)) }
+        ensures others { option_map (without path.now) (⟦<MemShelf as Shelf>⟧.files self.new)
+            ≡ option_map (without path.now) (⟦<MemShelf as Shelf>⟧.files self.old) }
+        ensures err { OnErr result (⟦<MemShelf as Shelf>⟧.files self.new
+            ≡ ⟦<MemShelf as Shelf>⟧.files self.old) }
+        ensures cause { HasCause PutFault.Failed
+            (⟦<MemShelf as Shelf>⟧.count self.old) (⟦<MemShelf as Shelf>⟧.count self.new) result }
         ensures script { IsScripted PutFault.Failed (calls_of_shelf self.old) (calls_of_shelf self.new) result }
     {
         if self.calls.next_fails() {

@@ -48,9 +48,12 @@ impl Sink for MemSink {
     }
 
     fn put(&mut self, bytes: &[u8]) -> Result<(), SinkFault>
-        ensures ok { OnOk result (⟦<MemSink as Sink>⟧.stream self.new ≡ option_map (appended bytes.now) (⟦<MemSink as Sink>⟧.stream self.old)) }
-        ensures some { AppendsSome bytes.now (⟦<MemSink as Sink>⟧.stream self.old) (⟦<MemSink as Sink>⟧.stream self.new) }
-        ensures cause { HasCause SinkFault.Failed (⟦<MemSink as Sink>⟧.count self.old) (⟦<MemSink as Sink>⟧.count self.new) result }
+        ensures ok { OnOk result (⟦<MemSink as Sink>⟧.stream self.new
+            ≡ option_map (appended bytes.now) (⟦<MemSink as Sink>⟧.stream self.old)) }
+        ensures some { AppendsSome bytes.now
+            (⟦<MemSink as Sink>⟧.stream self.old) (⟦<MemSink as Sink>⟧.stream self.new) }
+        ensures cause { HasCause SinkFault.Failed
+            (⟦<MemSink as Sink>⟧.count self.old) (⟦<MemSink as Sink>⟧.count self.new) result }
         ensures script { IsScripted SinkFault.Failed (calls_of_sink self.old) (calls_of_sink self.new) result }
     {
         if self.calls.next_fails() {

@@ -66,8 +66,10 @@ pub trait Shelf {
 
     /// Makes the path hold these bytes. After an error it may hold anything or be missing.
     fn put(&mut self, path: &str, bytes: &[u8]) -> Result<(), PutFault>
-        ensures ok { OnOk result (files self.new ≡ option_map (written path.now bytes.now) (files self.old)) }
-        ensures others { option_map (without path.now) (files self.new) ≡ option_map (without path.now) (files self.old) }
+        ensures ok { OnOk result (files self.new
+            ≡ option_map (written path.now bytes.now) (files self.old)) }
+        ensures others { option_map (without path.now) (files self.new)
+            ≡ option_map (without path.now) (files self.old) }
         ensures cause { HasCause PutFault.Failed (count self.old) (count self.new) result };
 }
 

@@ -63,7 +63,8 @@ pub enum Kind {
     UnknownName,
     /// An offer is not at a supplier, persons are not at a point, or an arc ends at a supplier or at its own start.
     WrongPlaceKind,
-    /// No multiple of the step lies from the least to the greatest ration, or grams of a plan are no multiple of the step.
+    /// No multiple of the step lies from the least to the greatest ration, or grams of a plan are no multiple
+    /// of the step.
     NoStepInRange,
     /// A table that must have a record has none.
     EmptyTable,

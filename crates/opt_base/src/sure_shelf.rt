@@ -36,8 +36,10 @@ impl SureShelf {
 
     /// Makes the path hold these bytes. After an error it is as before.
     pub fn load(&mut self, path: &str, bytes: &[u8]) -> Result<(), OutOfMemory>
-        ensures ok { OnOk result (⟦<SureShelf as Shelf>⟧.files self.new ≡ option_map (written path.now bytes.now) (⟦<SureShelf as Shelf>⟧.files self.old)) }
-        ensures err { OnErr result (⟦<SureShelf as Shelf>⟧.files self.new ≡ ⟦<SureShelf as Shelf>⟧.files self.old) }
+        ensures ok { OnOk result (⟦<SureShelf as Shelf>⟧.files self.new
+            ≡ option_map (written path.now bytes.now) (⟦<SureShelf as Shelf>⟧.files self.old)) }
+        ensures err { OnErr result (⟦<SureShelf as Shelf>⟧.files self.new
+            ≡ ⟦<SureShelf as Shelf>⟧.files self.old) }
     {
         let path = String::from_str(self.alloc, path)?;
         let content = Vec::from_slice(self.alloc, bytes)?;

@@ -134,12 +134,9 @@ impl Mult {
 fn are_small(entries: &[(u32, i64)]) -> bool
     ensures { IsTrue result ↔ All (λ e. unsigned_abs e.1 ≤ MULTIPLIER_LIMIT) entries.now }
 {
-    for entry in entries {
-        if entry.1.unsigned_abs() > MULTIPLIER_LIMIT {
-            return false;
-        }
-    }
-    true
+    entries
+        .iter()
+        .all(|entry| entry.1.unsigned_abs() <= MULTIPLIER_LIMIT)
 }
 
 /// Why the entry is wrong for the system, if it is.

@@ -7,8 +7,10 @@ use crate::reply::{Put, Reply};
 use crate::{MEMORY, OUTSIDE};
 use opt_base::{PutFault, Shelf, Sink, SinkFault};
 
-/// Makes the reply's puts in order, then writes its bytes to `out` and then those to `err`, where there are any. It stops at the first
-/// call that fails, with status 4 where the outside failed and 5 where memory ran out, and else answers the reply's status.
+/// Makes the reply's puts in order, then writes its bytes to `out` and then those to `err`, where there are any.
+///
+/// It stops at the first call that fails, with status 4 where the outside failed and 5 where memory ran out, and else
+/// answers the reply's status.
 pub fn deliver<S: Shelf, O: Sink, E: Sink>(
     reply: &Reply,
     shelf: &mut S,
@@ -17,8 +19,10 @@ pub fn deliver<S: Shelf, O: Sink, E: Sink>(
 ) -> u8
     requires { reply.now.status ≤ 3 }
     ensures { Delivers reply.now result
-        (standing (S.files shelf.old) (O.stream out.old) (E.stream err.old)) (standing (S.files shelf.new) (O.stream out.new) (E.stream err.new))
-        (faults (S.count shelf.old) (O.count out.old) (E.count err.old)) (faults (S.count shelf.new) (O.count out.new) (E.count err.new)) }
+        (standing (S.files shelf.old) (O.stream out.old) (E.stream err.old))
+        (standing (S.files shelf.new) (O.stream out.new) (E.stream err.new))
+        (faults (S.count shelf.old) (O.count out.old) (E.count err.old))
+        (faults (S.count shelf.new) (O.count out.new) (E.count err.new)) }
 {
     match attempt(reply, shelf, out, err) {
         Ok(()) => reply.status(),
@@ -64,11 +68,14 @@ fn attempt<S: Shelf, O: Sink, E: Sink>(
     out: &mut O,
     err: &mut E,
 ) -> Result<(), DeliveryFault>
-    ensures ok { OnOk result (GivesAll reply.now (standing (S.files shelf.old) (O.stream out.old) (E.stream err.old))
+    ensures ok { OnOk result (GivesAll reply.now
+        (standing (S.files shelf.old) (O.stream out.old) (E.stream err.old))
         (standing (S.files shelf.new) (O.stream out.new) (E.stream err.new))) }
-    ensures err { OnErr result (GivesSome reply.now (standing (S.files shelf.old) (O.stream out.old) (E.stream err.old))
+    ensures err { OnErr result (GivesSome reply.now
+        (standing (S.files shelf.old) (O.stream out.old) (E.stream err.old))
         (standing (S.files shelf.new) (O.stream out.new) (E.stream err.new))) }
-    ensures cause { IsErrOf result DeliveryFault.Outside → SomeRose (faults (S.count shelf.old) (O.count out.old) (E.count err.old))
+    ensures cause { IsErrOf result DeliveryFault.Outside → SomeRose
+        (faults (S.count shelf.old) (O.count out.old) (E.count err.old))
         (faults (S.count shelf.new) (O.count out.new) (E.count err.new)) }
     ensures later { NoneFell (faults (S.count shelf.old) (O.count out.old) (E.count err.old))
         (faults (S.count shelf.new) (O.count out.new) (E.count err.new)) }

@@ -35,8 +35,8 @@ impl Put {
     }
 }
 
-/// What a command answers with: its status, the files that it puts in order, and the bytes for `out` and `err`. It uses the allocator
-/// that it was made with.
+/// What a command answers with: its status, the files that it puts in order, and the bytes for `out` and `err`. It uses
+/// the allocator that it was made with.
 #[derive(Debug, Drop)]
 pub struct Reply {
     alloc: Global,
@@ -51,7 +51,12 @@ impl Model for Reply {
 
     ghost Value = { Answer };
 
-    ghost view = { λ r. record { status = r.status; puts = r.puts.items; printed = r.printed.items; refused = r.refused.items } };
+    ghost view = { λ r. record {
+      status = r.status;
+      puts = r.puts.items;
+      printed = r.printed.items;
+      refused = r.refused.items;
+    } };
 }
 
 impl Reply {

@@ -6,7 +6,7 @@ use Rattle.std.proofs.lemmas.Bool.Decides.{nat_tests}
 use Rattle.opt_base.specs.Answers.{◌>>=◌}
 use Rattle.opt_sums.specs.Sums.{at}
 use Rattle.opt_system.specs.Ranges.{Range}
-use Rattle.opt_system.specs.Cuts.{IsCut, left_half, right_half}
+use Rattle.opt_system.specs.Cuts.{IsCut, is_cut, left_half, right_half}
 use Rattle.opt_system.specs.Systems.{System}
 use Rattle.opt_bound.specs.declared.fault.EntryFault.{EntryFault}
 use Rattle.opt_bound.specs.declared.leaf.Leaf.{Leaf}
@@ -18,7 +18,7 @@ use Rattle.opt_tree.specs.declared.check_fault.CheckFault.TheVariants.{CutRange,
 use Rattle.opt_tree.specs.declared.node.Node.TheVariants.{Split}
 use Rattle.opt_tree.specs.Trees.{BoxTree, leaf, split, node_count}
 use Rattle.opt_tree.specs.Nodes.{Tree, IsTree, IsLeaf, IsSplit, node_at, box_of, tree_of}
-use Rattle.opt_tree.specs.Shown.{Known, Seen, nothing_seen, leaf_at, is_closed, least_with, with_split, with_leaf, shown_bound, judge_leaf, unless_wrong, look_leaf, is_cut, look_cut, look}
+use Rattle.opt_tree.specs.Shown.{Known, Seen, nothing_seen, leaf_at, is_closed, least_with, with_split, with_leaf, shown_bound, judge_leaf, unless_wrong, look_leaf, look_cut, look}
 use Rattle.opt_tree.proofs.BoxLemmas.{box_of-left, box_of-right}
 use Rattle.opt_tree.proofs.LeafSums.{node_count-tree_of}
 use Rattle.opt_tree.proofs.LookTrue.{Bounds}

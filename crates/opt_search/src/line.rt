@@ -63,19 +63,11 @@ pub fn cut_line<G: Guide>(
 {
     let _quantities = system.quantities();
     let (quantity, at) = guide.cut(alloc, system, range)?;
-    if is_cut(range, quantity, at) {
+    if range.has_cut(quantity, at) {
         Ok((quantity, at))
     } else {
         Ok(halving(range))
     }
-}
-
-/// Whether both halves of the box keep a value.
-fn is_cut(range: &Range, quantity: u32, at: i64) -> bool
-    ensures { IsTrue result ↔ IsCut range.now quantity at }
-{
-    let j = quantity as usize;
-    j < range.low().len() && range.low()[j] <= at && at < range.high()[j]
 }
 
 /// The first quantity that has more than one value in the box, and halfway between its ends, rounded down.

@@ -1,5 +1,5 @@
 -- Cuts of a range at one quantity, and the two halves that a cut leaves.
-use Rattle.std.specs.Prelude.{ℕ, ◌<◌, length, slice_set, ℤ, pos, ◌+ℤ◌, ◌≤ℤ◌, ◌<ℤ◌}
+use Rattle.std.specs.Prelude.{ℕ, ◌<◌, length, slice_set, nat_lt, Bool, ◌&&◌, ℤ, pos, ◌+ℤ◌, ◌≤ℤ◌, ◌<ℤ◌, int_le, int_lt}
 use Rattle.opt_sums.specs.Sums.{at}
 use Rattle.opt_system.specs.Ranges.{Range}
 
@@ -8,6 +8,10 @@ pub record IsCut (box : Range) (j : ℕ) (t : ℤ) : Type 0 where
   pub quantity : j < length box.low
   pub from_low : at box.low j ≤ℤ t
   pub below_high : t <ℤ at box.high j
+
+-- whether quantity j may be cut at t
+abbrev pub is_cut : Range → ℕ → ℤ → Bool
+is_cut box j t = nat_lt j (length box.low) && (int_le (at box.low j) t && int_lt t (at box.high j))
 
 -- the half in which quantity j is at most t
 abbrev pub left_half : Range → ℕ → ℤ → Range

@@ -36,6 +36,12 @@ IsSmallTerm high e = (e.0 < length high) × IsSmallBy e.1 (at high e.0)
 abbrev pub IsSmallColumnTerm : System → ℕ → ℕ × ℤ → Type 0
 IsSmallColumnTerm p j e = (e.0 < length p.rows) × IsSmallBy e.1 (at p.root.high j)
 
+-- a cost is from 0 on and small for the greatest value, which is below the limit
+pub record IsSmallCost (cost high : ℤ) : Type 0 where
+  pub from_zero : pos 0 ≤ℤ cost
+  pub small : IsSmallBy cost high
+  pub below : unsigned_abs high < SIZE_LIMIT
+
 -- costs are from 0 on and small, and greatest values are below the limit
 pub record AreSmallCosts (cost high : List ℤ) : Type 0 where
   pub from_zero : (j : ℕ) → j < length cost → pos 0 ≤ℤ at cost j

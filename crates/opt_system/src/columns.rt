@@ -7,7 +7,8 @@ use crate::terms::Terms;
 use opt_base::ROW_LIMIT;
 use std::alloc::{AllocError, Global};
 
-/// The terms of rows by column: rows with their coefficients in one list, column after column, and where each column starts.
+/// The terms of rows by column: rows with their coefficients in one list, column after column, and where each column
+/// starts.
 ///
 /// The last start is the list's length.
 #[derive(Debug, Drop)]

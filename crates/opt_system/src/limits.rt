@@ -1,12 +1,11 @@
-ghost use Rattle.std.specs.Prelude.{◌≡◌, ◌*◌, ◌<◌, ◌≤◌, ◌↔◌, length, max, sum_by, All, IsTrue, unsigned_abs};
-ghost use Rattle.opt_sums.specs.Sums.{at};
-ghost use Rattle.opt_system.specs.Systems.{IsSmallTerm, AreSmallCosts, term_count as count_of_terms};
+ghost use Rattle.std.specs.Prelude.{◌≡◌, ◌≤◌, ◌↔◌, length, max, sum_by, All, IsTrue, unsigned_abs};
+ghost use Rattle.opt_system.specs.Systems.{IsSmallBy, IsSmallTerm, IsSmallCost, AreSmallCosts, term_count as count_of_terms};
 
 use crate::rows::Row;
 use opt_base::{QUANTITY_LIMIT, ROW_LIMIT};
 
-/// Each greatest value of a quantity, and each coefficient's size and each cost times the greatest value of its quantity
-/// (or 1), is below this.
+/// Each greatest value of a quantity, and each coefficient's size and each cost times the greatest value of its
+/// quantity (or 1), is below this.
 pub const SIZE_LIMIT: u128 = 1 << 51;
 
 /// The sizes of a system's right-hand sides are at most this together.
@@ -26,12 +25,17 @@ pub fn term_count(rows: &[Row]) -> usize
 }
 
 /// Whether a coefficient or cost is small enough for a quantity with this greatest value.
-fn is_small_at(number: i64, high: &[i64], j: usize) -> bool
-    requires { j < length high.now }
-    ensures { IsTrue result
-        ↔ (unsigned_abs number * max (unsigned_abs (at high.now j)) 1 < SIZE_LIMIT) }
+fn is_small_by(number: &i64, high: &i64) -> bool
+    ensures { IsTrue result ↔ IsSmallBy number.now high.now }
 {
-    u128::from(number.unsigned_abs()) * u128::from(high[j].unsigned_abs().max(1)) < SIZE_LIMIT
+    u128::from(number.unsigned_abs()) * u128::from(high.unsigned_abs().max(1)) < SIZE_LIMIT
+}
+
+/// Whether a cost is from 0 on and small for this greatest value, which is small too.
+fn is_small_cost(cost: &i64, high: &i64) -> bool
+    ensures { IsTrue result ↔ IsSmallCost cost.now high.now }
+{
+    *cost >= 0 && is_small_by(cost, high) && u128::from(high.unsigned_abs()) < SIZE_LIMIT
 }
 
 /// Whether the costs are from 0 on and small, and the greatest values too.
@@ -39,39 +43,33 @@ pub fn small_costs(costs: &[i64], high: &[i64]) -> bool
     requires { length costs.now ≡ length high.now }
     ensures { IsTrue result ↔ AreSmallCosts costs.now high.now }
 {
-    for j in 0..costs.len() {
-        if costs[j] < 0
-            || !is_small_at(costs[j], high, j)
-            || u128::from(high[j].unsigned_abs()) >= SIZE_LIMIT
-        {
-            return false;
-        }
-    }
-    true
+    costs
+        .iter()
+        .zip(high)
+        .all(|(cost, high)| is_small_cost(cost, high))
+}
+
+/// Whether the term names a quantity and has a small coefficient.
+fn is_small_term(term: &(u32, i64), high: &[i64]) -> bool
+    ensures { IsTrue result ↔ IsSmallTerm high.now term.now }
+{
+    let j = term.0 as usize;
+    j < high.len() && is_small_by(&term.1, &high[j])
 }
 
 /// Whether the terms name quantities and have small coefficients.
 fn small_terms(terms: &[(u32, i64)], high: &[i64]) -> bool
     ensures { IsTrue result ↔ All (IsSmallTerm high.now) terms.now }
 {
-    for term in terms {
-        if term.0 as usize >= high.len() || !is_small_at(term.1, high, term.0 as usize) {
-            return false;
-        }
-    }
-    true
+    terms.iter().all(|term| is_small_term(term, high))
 }
 
 /// Whether the terms of each row do.
 pub fn small_rows(rows: &[Row], high: &[i64]) -> bool
     ensures { IsTrue result ↔ All (λ row. All (IsSmallTerm high.now) row.terms) rows.now }
 {
-    for row in rows {
-        if !small_terms(row.terms.as_slice(), high) {
-            return false;
-        }
-    }
-    true
+    rows.iter()
+        .all(|row| small_terms(row.terms.as_slice(), high))
 }
 
 /// Whether the sizes of the right-hand sides are small enough together.

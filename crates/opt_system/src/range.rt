@@ -24,6 +24,7 @@ impl Model for Range {
 
 impl Range {
     ghost use Rattle.opt_system.specs.Ranges.{Range, IsOrdered, IsWithin, LiesIn};
+    ghost use Rattle.opt_system.specs.Cuts.{IsCut, is_cut};
 
     /// The range of these lows and highs: as many of each, and `0 <= low <= high` throughout.
     pub fn new(alloc: Global, low: &[i64], high: &[i64]) -> Result<Range, OutOfMemory>
@@ -50,12 +51,9 @@ impl Range {
         if low.len() != high.len() {
             return false;
         }
-        for j in 0..low.len() {
-            if low[j] < 0 || low[j] > high[j] {
-                return false;
-            }
-        }
-        true
+        low.iter()
+            .zip(high)
+            .all(|(low, high)| 0 <= *low && low <= high)
     }
 
     /// Whether the point has one value for each quantity, and each lies in its range.
@@ -65,12 +63,7 @@ impl Range {
         if x.len() != self.low.len() {
             return false;
         }
-        for j in 0..x.len() {
-            if x[j] < self.low[j] || x[j] > self.high[j] {
-                return false;
-            }
-        }
-        true
+        at_most(&self.low, x) && at_most(x, &self.high)
     }
 
     /// Whether the range is for the quantities of the outer one and leaves no value that the outer one lacks.
@@ -84,6 +77,16 @@ impl Range {
             return false;
         }
         at_most(&self.high, &outer.high)
+    }
+
+    /// Whether the quantity may be cut at `at`: there is such a quantity, and both halves of the range keep a value.
+    pub fn has_cut(&self, quantity: u32, at: i64) -> bool
+        ensures value { result ≡ is_cut self.now quantity at }
+        ensures cut { IsTrue result ↔ IsCut self.now quantity at }
+        ensures ordered { IsOrdered self.now }
+    {
+        let j = quantity as usize;
+        j < self.low.len() && self.low[j] <= at && at < self.high[j]
     }
 
     /// The least value of each quantity.
@@ -151,10 +154,8 @@ fn at_most(first: &[i64], second: &[i64]) -> bool
     ensures { IsTrue result
         ↔ ((j : ℕ) → j < length first.now → at first.now j ≤ℤ at second.now j) }
 {
-    for j in 0..first.len() {
-        if first[j] > second[j] {
-            return false;
-        }
-    }
-    true
+    first
+        .iter()
+        .zip(second)
+        .all(|(first, second)| first <= second)
 }

@@ -44,9 +44,11 @@ impl Model for System {
 }
 
 impl System {
-    /// Whether the numbers are within the limits by which no sum overflows: one cost for each quantity and at most 20,000 of
-    /// them, costs of at least 0, terms that name quantities, each coefficient's size and each cost times the greatest value
-    /// of its quantity (or 1) below 2^51, each greatest value below 2^51, and the sizes of the right-hand sides at most 2^64 together.
+    /// Whether the numbers are within the limits by which no sum overflows.
+    ///
+    /// There are at most 20,000 quantities with one cost each, costs are at least 0 and terms name quantities. Each
+    /// coefficient's size and each cost times the greatest value of its quantity (or 1) is below 2^51, and so is each
+    /// greatest value. The sizes of the right-hand sides are at most 2^64 together.
     pub fn are_small(rows: &RowList, root: &Range, costs: &[i64]) -> bool
         ensures { IsTrue result ↔ IsSmall rows.now root.now costs.now }
     {

@@ -6,7 +6,7 @@ use Rattle.std.proofs.lemmas.Bool.Decides.{Decides-ltb}
 use Rattle.opt_base.specs.Answers.{◌>>=◌}
 use Rattle.opt_sums.specs.Sums.{at}
 use Rattle.opt_system.specs.Ranges.{Range, IsOrdered, IsWithin}
-use Rattle.opt_system.specs.Cuts.{IsCut, left_half, right_half}
+use Rattle.opt_system.specs.Cuts.{IsCut, is_cut, left_half, right_half}
 use Rattle.opt_system.specs.Systems.{System, IsLimited, Meets, value}
 use Rattle.opt_bound.specs.declared.fault.EntryFault.{EntryFault}
 use Rattle.opt_bound.specs.declared.leaf.Leaf.{Leaf}
@@ -18,7 +18,7 @@ use Rattle.opt_bound.proofs.FaultLemmas.{admissible_of}
 use Rattle.opt_system.proofs.CutLemmas.{IsOrdered-left, IsOrdered-right, in_a_half}
 use Rattle.opt_tree.specs.Trees.{BoxTree, leaf, split, node_count}
 use Rattle.opt_tree.specs.Certificates.{HasNodes}
-use Rattle.opt_tree.specs.Shown.{Known, Seen, leaf_at, is_reached, is_closed, least_with, with_split, with_leaf, judge_leaf, unless_wrong, look_leaf, is_cut, look_cut, look}
+use Rattle.opt_tree.specs.Shown.{Known, Seen, leaf_at, is_reached, is_closed, least_with, with_split, with_leaf, judge_leaf, unless_wrong, look_leaf, look_cut, look}
 use Rattle.opt_tree.proofs.Steps.{then_ok, ok_if, ok_unless, both_true, closed_if}
 use Rattle.opt_tree.proofs.LeafTrue.{leaf_at-true}
 

@@ -9,7 +9,7 @@ use Rattle.opt_base.specs.declared.verdict.Verdict.TheVariants as verdict
 use Rattle.opt_sums.specs.Sums.{at}
 use Rattle.opt_system.specs.Ranges.{Range}
 use Rattle.opt_system.specs.Broken.{first_broken_of}
-use Rattle.opt_system.specs.Cuts.{left_half, right_half}
+use Rattle.opt_system.specs.Cuts.{is_cut, left_half, right_half}
 use Rattle.opt_system.specs.Systems.{System, value}
 use Rattle.opt_bound.specs.declared.leaf.Leaf.{Leaf}
 use Rattle.opt_bound.specs.declared.leaf.Leaf.TheVariants.{Empty, AtLeast}
@@ -155,10 +155,6 @@ look_leaf s k seen box m =
     unless_wrong (first_fault_of s m.entries) seen.nodes m >>= λ y. judge_leaf k seen (leaf_at s box y)
 
 -- ---- the tree
--- whether both halves of the box keep a value
-abbrev pub is_cut : Range → ℕ → ℤ → Bool
-is_cut box j t = nat_lt j (length box.low) && (int_le (at box.low j) t && int_lt t (at box.high j))
-
 abbrev pub look_cut : Seen → Range → ℕ → ℤ → Result Seen CheckFault
 look_cut seen box j t = if is_cut box j t then Ok (with_split seen) else Err (CutRange seen.nodes)
 
