@@ -1,3 +1,4 @@
+pub mod Names
 pub mod Settings
 pub mod Columns
 pub mod Tables

@@ -15,7 +15,10 @@ mod tests;
 pub use columns::{column_name, columns_of};
 pub use file::file_name;
 pub use format::{has_baskets, has_lots};
-pub use limits::{BASKET_LIMIT, LAST_FORMAT};
+pub use limits::{
+    BASKET_LIMIT, CONTENT_LIMIT, GROUP_LIMIT, KILOGRAM_LIMIT, LAST_FORMAT, LEAD_LIMIT, MONTH_LIMIT,
+    NEED_LIMIT, PERSON_LIMIT, PRICE_LIMIT, RATION_LIMIT, WEIGHT_LIMIT,
+};
 pub use name::Name;
 pub use opt_base::Verdict;
 pub use quantity::{Quantity, RowName};

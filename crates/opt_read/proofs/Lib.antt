@@ -1,5 +1,6 @@
 mod BodyLemmas
 mod CellLemmas
+mod FieldLemmas
 mod GridLemmas
 pub mod GridLaws
 mod ReadLemmas

@@ -11,7 +11,8 @@ use Rattle.opt_model.specs.Settings.{Settings}
 use Rattle.opt_read.specs.declared.key.Key.{Key}
 use Rattle.opt_read.specs.declared.key.Key.TheVariants as key
 use Rattle.opt_model.specs.declared.limits.TheConstants.{LAST_FORMAT}
-use Rattle.opt_read.specs.declared.limits.TheConstants.{MAX_AMOUNT, MAX_DAYS, MAX_MONTHS, MAX_NODES}
+use Rattle.opt_model.specs.declared.limits.TheConstants.{MONTH_LIMIT}
+use Rattle.opt_read.specs.declared.limits.TheConstants.{AMOUNT_LIMIT, DAY_LIMIT, NODE_SETTING_LIMIT}
 use Rattle.opt_read.specs.Keys.{key_name}
 use Rattle.opt_read.specs.Reading.{text_of}
 use Rattle.opt_read.specs.Settings.{all_there, amount_setting, amount_value, amount_or_none, number_between, budget_setting, day_list, days_setting, day_array, document_of, goal_setting, or_out_of_range, items, natural_of, number_setting, integer_between, settings_of, setup_of, required_value}
@@ -41,13 +42,13 @@ number_setting-is entries at low high n e =
     integer_between-is low high n v.0 (was_in_range at (integer_between low high v.0) n v.2)
 
 amount_value-is : (value : Data) (z : ℤ) → amount_value value ≡ Some z → IsAmount z
-amount_value-is value z e = by (integer_between 0 MAX_AMOUNT value) refl e
+amount_value-is value z e = by (integer_between 0 AMOUNT_LIMIT value) refl e
   where
-    by : (o : Option ℕ) → integer_between 0 MAX_AMOUNT value ≡ o → option_map pos o ≡ Some z → IsAmount z
+    by : (o : Option ℕ) → integer_between 0 AMOUNT_LIMIT value ≡ o → option_map pos o ≡ Some z → IsAmount z
     by None same e = cc
     by (Some n) same e =
         let is_pos : pos n ≡ z = cc in
-        let bound : (0 ≤ n) × (n ≤ MAX_AMOUNT) = integer_between-is 0 MAX_AMOUNT n value same in
+        let bound : (0 ≤ n) × (n ≤ AMOUNT_LIMIT) = integer_between-is 0 AMOUNT_LIMIT n value same in
         rw (← is_pos) (omega (arith, ints), omega (arith, ints))
 
 pub amount_setting-is : (entries : Members) (at : Key) (z : ℤ) → amount_setting entries at ≡ Ok z → IsAmount z
@@ -80,20 +81,20 @@ All-more : {A : Type 0} (P : A → Type 0) (x : A) (xs : List A) → P x → All
 All-more P x xs here later zero d within = here
 All-more P x xs here later (suc k) d within = later k d (omega arith)
 
-days-each : (values : List Data) (days : List ℕ) → all_there (map (integer_between 0 MAX_DAYS) values) ≡ Some days → All (λ day. day ≤ MAX_DAYS) days
+days-each : (values : List Data) (days : List ℕ) → all_there (map (integer_between 0 DAY_LIMIT) values) ≡ Some days → All (λ day. day ≤ DAY_LIMIT) days
 days-each [] days e = let none : [] ≡ days = cc in rw (← none) (λ k d within. absurd (omega arith))
 days-each (value ∷ values) days e =
-    let w = went_cons (integer_between 0 MAX_DAYS value) (map (integer_between 0 MAX_DAYS) values) days e in
-    rw (← w.4) (All-more (λ day. day ≤ MAX_DAYS) w.0 w.1 (integer_between-is 0 MAX_DAYS w.0 value w.2).1 (days-each values w.1 w.3))
+    let w = went_cons (integer_between 0 DAY_LIMIT value) (map (integer_between 0 DAY_LIMIT) values) days e in
+    rw (← w.4) (All-more (λ day. day ≤ DAY_LIMIT) w.0 w.1 (integer_between-is 0 DAY_LIMIT w.0 value w.2).1 (days-each values w.1 w.3))
 
-day_list-kept : (months : ℕ) (values : List Data) (days : List ℕ) → day_list months values ≡ Some days → (length days ≡ months) × All (λ day. day ≤ MAX_DAYS) days
+day_list-kept : (months : ℕ) (values : List Data) (days : List ℕ) → day_list months values ≡ Some days → (length days ≡ months) × All (λ day. day ≤ DAY_LIMIT) days
 day_list-kept months values days e = by (length values == months) refl e
   where
-    by : (fits : Bool) → (length values == months) ≡ fits → (if fits then all_there (map (integer_between 0 MAX_DAYS) values) else None) ≡ Some days → (length days ≡ months) × All (λ day. day ≤ MAX_DAYS) days
-    by true same there = (all_there-length (map (integer_between 0 MAX_DAYS) values) days there ∙ (length-map values (integer_between 0 MAX_DAYS) ∙ eqb-true _ _ same), days-each values days there)
+    by : (fits : Bool) → (length values == months) ≡ fits → (if fits then all_there (map (integer_between 0 DAY_LIMIT) values) else None) ≡ Some days → (length days ≡ months) × All (λ day. day ≤ DAY_LIMIT) days
+    by true same there = (all_there-length (map (integer_between 0 DAY_LIMIT) values) days there ∙ (length-map values (integer_between 0 DAY_LIMIT) ∙ eqb-true _ _ same), days-each values days there)
     by false same there = cc
 
-pub days_setting-kept : (entries : Members) (months : ℕ) (days : List ℕ) → days_setting entries months ≡ Ok days → (length days ≡ months) × All (λ day. day ≤ MAX_DAYS) days
+pub days_setting-kept : (entries : Members) (months : ℕ) (days : List ℕ) → days_setting entries months ≡ Ok days → (length days ≡ months) × All (λ day. day ≤ DAY_LIMIT) days
 days_setting-kept entries months days e =
     let v = went_on (required_value entries key.Days) (λ value. or_out_of_range key.Days (day_array months value)) days e in
     let a = went_then (λ array. day_list months (items array)) (as_array v.0) days (was_in_range key.Days (day_array months v.0) days v.2) in
@@ -102,21 +103,21 @@ days_setting-kept entries months days e =
 pub setup-kept : (entries : Members) (s : Settings) → setup_of entries ≡ Ok s → IsSetup s
 setup-kept entries s e =
     let format = went_on (number_setting entries key.Format 1 LAST_FORMAT) _ s e in
-    let months = went_on (number_setting entries key.Months 1 MAX_MONTHS) _ s format.2 in
+    let months = went_on (number_setting entries key.Months 1 MONTH_LIMIT) _ s format.2 in
     let days = went_on (days_setting entries months.0) _ s months.2 in
     let goal = went_on (goal_setting entries) _ s days.2 in
     let gap = went_on (amount_setting entries key.Gap) _ s goal.2 in
-    let nodes = went_on (number_setting entries key.Nodes 1 MAX_NODES) _ s gap.2 in
+    let nodes = went_on (number_setting entries key.Nodes 1 NODE_SETTING_LIMIT) _ s gap.2 in
     let budget = went_on (budget_setting entries) _ s nodes.2 in
     let kept = days_setting-kept entries months.0 days.0 days.1 in
     let all : record { format = format.0; months = months.0; days = days.0; goal = goal.0; gap = gap.0; nodes = nodes.0; budget = budget.0 } ≡ s = cc (budget.2) in
     rw (← all) (record {
       format = number_setting-is entries key.Format 1 LAST_FORMAT format.0 format.1;
-      months = number_setting-is entries key.Months 1 MAX_MONTHS months.0 months.1;
+      months = number_setting-is entries key.Months 1 MONTH_LIMIT months.0 months.1;
       days = kept.0;
       day = kept.1;
       gap = amount_setting-is entries key.Gap gap.0 gap.1;
-      nodes = number_setting-is entries key.Nodes 1 MAX_NODES nodes.0 nodes.1;
+      nodes = number_setting-is entries key.Nodes 1 NODE_SETTING_LIMIT nodes.0 nodes.1;
       budget = budget_setting-is (get_member (key_name key.Budget) entries) budget.0 budget.1;
     })
 

@@ -7,7 +7,7 @@ use Rattle.toml.specs.Data.{Data, Members, as_array}
 use Rattle.toml.specs.View.{items_of, view}
 use Rattle.toml.specs.declared.value.Value.{Value}
 use Rattle.opt_read.specs.declared.key.Key.TheVariants as key
-use Rattle.opt_read.specs.declared.limits.TheConstants.{MAX_DAYS}
+use Rattle.opt_read.specs.declared.limits.TheConstants.{DAY_LIMIT}
 use Rattle.opt_read.specs.Settings.{all_there, day_list, days_setting, or_out_of_range, items, integer_between, required_value}
 
 -- these, and then those that are still to come
@@ -42,10 +42,10 @@ items-of [] = refl
 items-of (value ∷ values) = ap (λ more. value ∷ more) (items-of values)
 
 -- the days of an array of the right length
-pub day_list-is : (months : ℕ) (values : List Value) → length values ≡ months → day_list months (map view values) ≡ all_there (map (λ value. integer_between 0 MAX_DAYS (view value)) values)
+pub day_list-is : (months : ℕ) (values : List Value) → length values ≡ months → day_list months (map view values) ≡ all_there (map (λ value. integer_between 0 DAY_LIMIT (view value)) values)
 day_list-is months values same =
     let fits : (length (map view values) == months) ≡ true = eq-eqb _ _ (length-map values view ∙ same) in
-    rw fits (ap all_there (map-map (integer_between 0 MAX_DAYS) view values))
+    rw fits (ap all_there (map-map (integer_between 0 DAY_LIMIT) view values))
 
 -- the days where an array stands
 pub days_setting-is : (entries : Members) (months : ℕ) (value : Data) (values : List Data) → required_value entries key.Days ≡ Ok value → Some (items_of values) ≡ as_array value

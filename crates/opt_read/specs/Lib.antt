@@ -1,4 +1,5 @@
 pub mod Cells
+pub mod Fields
 pub mod Grid
 pub mod Keys
 pub mod Reading

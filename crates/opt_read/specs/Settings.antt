@@ -14,7 +14,8 @@ use Rattle.opt_model.specs.declared.records.Goal.TheVariants.{Cost, Shortfall}
 use Rattle.opt_read.specs.declared.key.Key.{Key}
 use Rattle.opt_read.specs.declared.key.Key.TheVariants as key
 use Rattle.opt_model.specs.declared.limits.TheConstants.{LAST_FORMAT}
-use Rattle.opt_read.specs.declared.limits.TheConstants.{MAX_AMOUNT, MAX_DAYS, MAX_MONTHS, MAX_NODES}
+use Rattle.opt_model.specs.declared.limits.TheConstants.{MONTH_LIMIT}
+use Rattle.opt_read.specs.declared.limits.TheConstants.{AMOUNT_LIMIT, DAY_LIMIT, NODE_SETTING_LIMIT}
 use Rattle.opt_read.specs.Keys.{key_name, key_number}
 use Rattle.opt_read.specs.Reading.{text_of}
 
@@ -52,7 +53,7 @@ integer_between low high value = option_and_then (number_between low high) (opti
 
 -- an amount of mills or of weighted shortfall
 abbrev pub amount_value : Data → Option ℤ
-amount_value value = option_map pos (integer_between 0 MAX_AMOUNT value)
+amount_value value = option_map pos (integer_between 0 AMOUNT_LIMIT value)
 
 -- the items of an array
 abbrev pub items : Items → List Data
@@ -67,7 +68,7 @@ all_there (Some x ∷ more) = option_map (λ xs. x ∷ xs) (all_there more)
 
 -- the days of each month: an array of that many integers from 0 to 31
 abbrev pub day_list : ℕ → List Data → Option (List ℕ)
-day_list months values = if length values == months then all_there (map (integer_between 0 MAX_DAYS) values) else None
+day_list months values = if length values == months then all_there (map (integer_between 0 DAY_LIMIT) values) else None
 
 -- the same where an array stands
 abbrev pub day_array : ℕ → Data → Option (List ℕ)
@@ -114,11 +115,11 @@ budget_setting entries = amount_or_none (get_member (key_name key.Budget) entrie
 abbrev pub setup_of : Members → Result Settings Refusal
 setup_of entries =
     number_setting entries key.Format 1 LAST_FORMAT >>= λ format.
-    number_setting entries key.Months 1 MAX_MONTHS >>= λ months.
+    number_setting entries key.Months 1 MONTH_LIMIT >>= λ months.
     days_setting entries months >>= λ days.
     goal_setting entries >>= λ goal.
     amount_setting entries key.Gap >>= λ gap.
-    number_setting entries key.Nodes 1 MAX_NODES >>= λ nodes.
+    number_setting entries key.Nodes 1 NODE_SETTING_LIMIT >>= λ nodes.
     budget_setting entries >>= λ budget.
     Ok (record { format = format; months = months; days = days; goal = goal; gap = gap; nodes = nodes; budget = budget })
 

@@ -1,40 +1,38 @@
 ghost use Rattle.std.specs.Prelude.{◌≡◌, ◌↔◌, [], IsTrue, length};
-ghost use Rattle.csv.specs.Records.{fields_of};
 ghost use Rattle.opt_read.specs.Cells.{AreCells, records_of};
 ghost use Rattle.opt_read.specs.Grid.{field_at};
 
-use csv::StringRecord;
+use crate::field_list::FieldList;
 use std::alloc::Global;
 use std::marker::Model;
 
 /// The fields of a table's records in the columns that were asked for, without the record that names the columns.
 /// Contracts see a list of records, each a list of its fields' bytes, spaces and tabs round a field stripped.
 ///
-/// The fields stand one after the other in one text, with the place where each ends: 8 bytes a field beside its own.
+/// The fields stand one after the other in one text, with the place where each ends: 4 bytes a field beside its own.
 #[derive(Drop)]
 pub struct Cells {
-    fields: StringRecord,
+    fields: FieldList,
     count: u32,
     width: usize,
 }
 
 impl Model for Cells {
     ghost use Rattle.std.specs.Prelude.{List, ℕ};
-    ghost use Rattle.csv.specs.Records.{fields_of};
     ghost use Rattle.opt_read.specs.Cells.{AreCells, records_of};
 
     ghost Value = { List (List (List ℕ)) };
 
-    ghost view = { λ cells. records_of cells.width cells.count (fields_of cells.fields) };
+    ghost view = { λ cells. records_of cells.width cells.count cells.fields };
 
-    ghost invariant = { λ cells. AreCells cells.width cells.count (fields_of cells.fields) };
+    ghost invariant = { λ cells. AreCells cells.width cells.count cells.fields };
 }
 
 impl Cells {
     /// The table of so many records, each of which has `width` of these fields.
-    pub(crate) fn new(fields: StringRecord, count: u32, width: usize) -> Cells
-        requires { AreCells width count (fields_of fields) }
-        ensures { result ≡ records_of width count (fields_of fields) }
+    pub(crate) fn new(fields: FieldList, count: u32, width: usize) -> Cells
+        requires { AreCells width count fields }
+        ensures { result ≡ records_of width count fields }
     {
         Cells {
             fields,
@@ -47,7 +45,7 @@ impl Cells {
     pub fn empty(alloc: Global) -> Cells
         ensures { result ≡ [] }
     {
-        Cells::new(StringRecord::new(alloc), 0, 0)
+        Cells::new(FieldList::new(alloc), 0, 0)
     }
 
     /// How many records there are.
@@ -74,9 +72,6 @@ impl Cells {
         if index >= self.count || column >= self.width {
             return "";
         }
-        match self.fields.get(index as usize * self.width + column) {
-            Some(field) => field,
-            None => "",
-        }
+        self.fields.field(index as usize * self.width + column)
     }
 }

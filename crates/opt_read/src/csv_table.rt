@@ -6,9 +6,10 @@ ghost use Rattle.opt_model.specs.Columns.{names_of};
 ghost use Rattle.opt_read.specs.Grid.{even_table, fields_at, first_fields, grid_of, place_of, places_of, text_table_of, without_blanks};
 
 use crate::cells::Cells;
+use crate::field_list::FieldList;
 use crate::reading::text;
 use crate::rows::{Rows, stripped_field, stripped_fields};
-use csv::{ByteRecord, StringRecord};
+use csv::ByteRecord;
 use opt_base::{File, Kind, ModelFault, OutOfMemory, Refusal};
 use std::alloc::{AllocError, Global};
 use std::str;
@@ -85,7 +86,7 @@ fn read_body(
     requires places { length places.now ≤ 255 }
     ensures { Gives (λ cells. cells) result (even_table file width (map (map without_blanks) rows.old) places.now) }
 {
-    let mut fields = StringRecord::new(alloc);
+    let mut fields = FieldList::new(alloc);
     let mut count = 0;
     let mut row = ByteRecord::new(alloc);
     while rows.next(&mut row)? {
@@ -99,16 +100,12 @@ fn read_body(
 }
 
 /// Adds the fields of a record of text at these places, stripped.
-fn add_fields(
-    fields: &mut StringRecord,
-    row: &ByteRecord,
-    places: &[usize],
-) -> Result<(), OutOfMemory>
+fn add_fields(fields: &mut FieldList, row: &ByteRecord, places: &[usize]) -> Result<(), OutOfMemory>
     requires { AllText (fields_of row.now) }
-    ensures { OnOk result (fields_of fields.new ≡ fields_of fields.old ++ fields_at places.now (fields_of row.now)) }
+    ensures { OnOk result (fields.new ≡ fields.old ++ fields_at places.now (fields_of row.now)) }
 {
     for place in places {
-        fields.push_field(text_field(row, *place))?;
+        fields.push(text_field(row, *place))?;
     }
     Ok(())
 }

@@ -4,6 +4,7 @@
 mod blanks;
 mod cells;
 mod csv_table;
+mod field_list;
 mod key;
 mod limits;
 mod reading;

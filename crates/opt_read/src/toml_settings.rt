@@ -9,11 +9,11 @@ ghost use Rattle.opt_read.specs.Keys.{key_name, key_number};
 ghost use Rattle.opt_read.specs.Settings.{all_there, amount_setting, amount_value, budget_setting, day_list, days_setting, document_of, goal_setting, goal_named, goal_value, or_out_of_range, natural_of, number_setting, integer_between, settings_of, setup_of, required_value};
 
 use crate::key::Key;
-use crate::limits::{MAX_AMOUNT, MAX_DAYS, MAX_MONTHS, MAX_NODES};
+use crate::limits::{AMOUNT_LIMIT, DAY_LIMIT, NODE_SETTING_LIMIT};
 use crate::reading::text;
 use crate::setup::Setup;
 use opt_base::{File, Kind, ModelFault, Refusal};
-use opt_model::{Goal, LAST_FORMAT};
+use opt_model::{Goal, LAST_FORMAT, MONTH_LIMIT};
 use std::alloc::Global;
 use toml::{Table, Value};
 
@@ -51,11 +51,11 @@ fn setup(alloc: Global, table: &Table) -> Result<Setup, ModelFault>
     ensures { Gives (λ setup. setup) result (setup_of (table_view table.now)) }
 {
     let format = number_setting(table, Key::Format, 1, LAST_FORMAT as u64)?;
-    let months = number_setting(table, Key::Months, 1, MAX_MONTHS)?;
+    let months = number_setting(table, Key::Months, 1, MONTH_LIMIT as u64)?;
     let days = days_setting(alloc, table, months)?;
     let goal = goal_setting(table)?;
     let gap = amount_setting(table, Key::Gap)?;
-    let nodes = number_setting(table, Key::Nodes, 1, MAX_NODES)?;
+    let nodes = number_setting(table, Key::Nodes, 1, NODE_SETTING_LIMIT)?;
     let budget = budget_setting(table)?;
     Ok(Setup {
         format: format as u32,
@@ -131,11 +131,11 @@ fn days(alloc: Global, values: &[Value], months: u64) -> Result<Vec<u32>, ModelF
 
 /// Each of these integers, from 0 to the greatest number of days.
 fn all_days(alloc: Global, values: &[Value]) -> Result<Vec<u32>, ModelFault>
-    ensures { Gives (λ days. days.items) result (or_out_of_range Key.Days (all_there (map (λ value. integer_between 0 MAX_DAYS (view value)) values.now))) }
+    ensures { Gives (λ days. days.items) result (or_out_of_range Key.Days (all_there (map (λ value. integer_between 0 DAY_LIMIT (view value)) values.now))) }
 {
     let mut days = Vec::new(alloc);
     for value in values {
-        match number(value, 0, MAX_DAYS) {
+        match number(value, 0, DAY_LIMIT) {
             Some(day) => days.push(day as u32)?,
             None => return Err(out_of_range(Key::Days)),
         }
@@ -202,7 +202,7 @@ fn natural(number: i64) -> Option<u64>
 fn amount(value: &Value) -> Option<i64>
     ensures { result ≡ amount_value (view value.now) }
 {
-    match number(value, 0, MAX_AMOUNT) {
+    match number(value, 0, AMOUNT_LIMIT) {
         Some(amount) => Some(amount as i64),
         None => None,
     }

@@ -24,8 +24,8 @@ use Rattle.opt_tables.specs.Facts.{IsFrom, IsNeed, IsNeedOf}
 use Rattle.opt_tables.specs.declared.baskets.BasketLine.{BasketLine}
 use Rattle.opt_tables.specs.declared.needs.NeedLine.{NeedLine}
 use Rattle.opt_tables.specs.declared.nutrients.NutrientLine.{NutrientLine}
-use Rattle.opt_tables.specs.declared.diet.Diet.{Diet}
-use Rattle.opt_tables.specs.declared.demand.Demand.{Demand}
+use Rattle.opt_tables.specs.Diet.{Diet}
+use Rattle.opt_tables.specs.Demand.{Demand}
 use Rattle.opt_tables.proofs.Cells.{from_between, number_from, IsReference, reference_is}
 use Rattle.opt_tables.proofs.TableFacts.{AreFew, HasLines, lines_are, IsMade, IsTable, one_known}
 use Rattle.opt_tables.proofs.DietFacts.{same_names, alike}

@@ -23,7 +23,7 @@ use Rattle.opt_tables.specs.declared.commodities.CommodityLine.{CommodityLine}
 use Rattle.opt_tables.specs.declared.groups.GroupLine.{GroupLine}
 use Rattle.opt_tables.specs.declared.nutrients.NutrientLine.{NutrientLine}
 use Rattle.opt_tables.specs.declared.contents.ContentLine.{ContentLine}
-use Rattle.opt_tables.specs.declared.diet.Diet.{Diet}
+use Rattle.opt_tables.specs.Diet.{Diet}
 use Rattle.opt_tables.proofs.Cells.{IsBetween, number_between, from_between, number_from, IsReference, reference_is, optional_reference_is, one_reference}
 use Rattle.opt_tables.proofs.TableFacts.{IsMade, IsTable, one_known}
 

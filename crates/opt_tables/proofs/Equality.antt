@@ -1,10 +1,11 @@
 -- Keys are equal where their names have the same bytes.
-use Rattle.std.proofs.Common.{◌≡◌, Bool, List, map, position, refl}
+use Rattle.std.proofs.Common.{◌≡◌, ℕ, Bool, List, map, position, bytes_eq, refl}
+use Rattle.std.specs.Borrow.{Bor}
 use Rattle.std.specs.List.{list_any}
 use Rattle.opt_tables.specs.contracts.key.KeyPartialEq.TheImpl as equality
 use Rattle.opt_tables.specs.declared.key.Key.{Key}
 use Rattle.opt_tables.specs.declared.key.Key.TheVariants.{Name, Names, NameInMonth, NamesInMonth}
-use Rattle.opt_tables.specs.Keys.{known_by, are_same}
+use Rattle.opt_tables.specs.Keys.{Known, Name as KnownName, known_by, known_names, are_same}
 use Rattle.opt_tables.proofs.Lists.{list_any-seen, position-seen}
 
 -- whether two keys are equal
@@ -36,3 +37,13 @@ has-known a keys = list_any-seen (are_equal a) (are_same (known_by a)) known_by 
 -- and where it is
 pub position-known : (a : Key) (keys : List Key) → position (are_equal a) keys ≡ position (are_same (known_by a)) (map known_by keys)
 position-known a keys = position-seen (are_equal a) (are_same (known_by a)) known_by (are_equal-same a) keys
+
+-- ---- names alone
+
+-- whether a name is among others
+pub has-name : (a : List ℕ) (names : List (Bor (List ℕ))) → list_any (λ name. bytes_eq a name.now) names ≡ list_any (are_same (KnownName a)) (known_names names)
+has-name a names = list_any-seen (λ name. bytes_eq a name.now) (are_same (KnownName a)) (λ name. KnownName name.now) (λ name. refl) names
+
+-- and where it is
+pub position-name : (a : List ℕ) (names : List (Bor (List ℕ))) → position (λ name. bytes_eq a name.now) names ≡ position (are_same (KnownName a)) (known_names names)
+position-name a names = position-seen (λ name. bytes_eq a name.now) (are_same (KnownName a)) (λ name. KnownName name.now) (λ name. refl) names

@@ -2,10 +2,13 @@ pub mod Cells
 pub mod Counts
 pub mod DemandFacts
 pub mod DietFacts
+pub mod EarlyLinks
 pub mod Equality
 pub mod Folders
 pub mod GotFiles
+pub mod KeySets
 pub mod Lists
+pub mod Positions
 pub mod MonthFacts
 pub mod NetworkFacts
 pub mod ReadModel

@@ -15,9 +15,9 @@ use Rattle.opt_tables.specs.Network.{basket_name_in, persons_line_of, persons_ke
 use Rattle.opt_tables.specs.Facts.{IsFrom, IsKilograms}
 use Rattle.opt_tables.specs.declared.persons.PersonsLine.{PersonsLine}
 use Rattle.opt_tables.specs.declared.stock.StockLine.{StockLine}
-use Rattle.opt_tables.specs.declared.diet.Diet.{Diet}
-use Rattle.opt_tables.specs.declared.network.Network.{Network}
-use Rattle.opt_tables.specs.declared.demand.Demand.{Demand}
+use Rattle.opt_tables.specs.Diet.{Diet}
+use Rattle.opt_tables.specs.Network.{Network}
+use Rattle.opt_tables.specs.Demand.{Demand}
 use Rattle.opt_tables.proofs.Cells.{IsBetween, number_between, number_from, IsReference, reference_is, one_reference}
 use Rattle.opt_tables.proofs.TableFacts.{IsMade, IsTable, one_known}
 use Rattle.opt_tables.proofs.DietFacts.{same_names, alike}

@@ -27,9 +27,9 @@ use Rattle.opt_tables.specs.declared.offers.TheConstants.{FEE_LIMIT}
 use Rattle.opt_tables.specs.declared.arcs.ArcLine.{ArcLine}
 use Rattle.opt_tables.specs.declared.persons.PersonsLine.{PersonsLine}
 use Rattle.opt_tables.specs.declared.stock.StockLine.{StockLine}
-use Rattle.opt_tables.specs.declared.diet.Diet.{Diet}
-use Rattle.opt_tables.specs.declared.network.Network.{Network}
-use Rattle.opt_tables.specs.declared.demand.Demand.{Demand}
+use Rattle.opt_tables.specs.Diet.{Diet}
+use Rattle.opt_tables.specs.Network.{Network}
+use Rattle.opt_tables.specs.Demand.{Demand}
 use Rattle.opt_tables.proofs.Cells.{IsBetween, number_between, from_between, number_from, optional_number_from, IsReference, reference_is, one_reference}
 use Rattle.opt_tables.proofs.TableFacts.{IsMade, IsTable, one_known}
 use Rattle.opt_tables.proofs.DietFacts.{same_names, alike}

@@ -25,9 +25,9 @@ use Rattle.opt_tables.specs.Network.{NetworkTables, place_line_of, offer_line_of
 use Rattle.opt_tables.specs.Demand.{DemandTables, basket_line_of, need_line_of, need_key, demand_of, only_basket, needs_from, only_demand, basket_of, need_of, demand_records_of}
 use Rattle.opt_tables.specs.Model.{diet_records_of, network_records_of, tables_with, linked_of, tables_in, tables_from, tables_of}
 use Rattle.opt_tables.specs.Facts.{IsCommodity, IsGrouped, IsGroup, IsContent, IsPlace, IsOffer, IsArc, IsPersons, IsStock, IsNeed, IsNeedOf, HasNoLot, IsModel}
-use Rattle.opt_tables.specs.declared.diet.Diet.{Diet}
-use Rattle.opt_tables.specs.declared.network.Network.{Network}
-use Rattle.opt_tables.specs.declared.demand.Demand.{Demand}
+use Rattle.opt_tables.specs.Diet.{Diet}
+use Rattle.opt_tables.specs.Network.{Network}
+use Rattle.opt_tables.specs.Demand.{Demand}
 use Rattle.opt_tables.proofs.Counts.{one_passes}
 use Rattle.opt_tables.proofs.Sizes.{checked_files_small}
 use Rattle.opt_tables.proofs.TableFacts.{AreFew, IsTable, all_made, names_once, ok_same}

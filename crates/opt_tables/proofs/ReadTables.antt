@@ -24,9 +24,9 @@ use Rattle.opt_tables.specs.declared.commodities.CommodityLine.{CommodityLine}
 use Rattle.opt_tables.specs.declared.nutrients.NutrientLine.{NutrientLine}
 use Rattle.opt_tables.specs.declared.baskets.BasketLine.{BasketLine}
 use Rattle.opt_tables.specs.declared.needs.NeedLine.{NeedLine}
-use Rattle.opt_tables.specs.declared.diet.Diet.{Diet}
-use Rattle.opt_tables.specs.declared.network.Network.{Network}
-use Rattle.opt_tables.specs.declared.demand.Demand.{Demand}
+use Rattle.opt_tables.specs.Diet.{Diet}
+use Rattle.opt_tables.specs.Network.{Network}
+use Rattle.opt_tables.specs.Demand.{Demand}
 use Rattle.opt_tables.proofs.TableFacts.{AreFew, lines_are, IsTable, table_is, ok_same}
 use Rattle.opt_tables.proofs.DemandFacts.{IsNeedLine, nutrient_needs_are, IsFew, AreBaskets, basket_lines_are}
 

@@ -13,13 +13,10 @@ use Rattle.opt_tables.specs.Keys.{Known, Names}
 use Rattle.opt_tables.specs.Records.{Record, text_in, name_in, reference_in}
 use Rattle.opt_base.specs.Refusals.{refusal_of_file}
 use Rattle.opt_tables.specs.Lines.{Lines, lines_in, name_key, records_of}
-use Rattle.opt_tables.specs.Diet.{need_in}
+use Rattle.opt_tables.specs.Diet.{Diet, need_in}
 use Rattle.opt_tables.specs.declared.baskets.BasketLine.{BasketLine}
 use Rattle.opt_tables.specs.declared.needs.NeedLine.{NeedLine}
 use Rattle.opt_tables.specs.declared.nutrients.NutrientLine.{NutrientLine}
-use Rattle.opt_tables.specs.declared.diet.Diet.{Diet}
-use Rattle.opt_tables.specs.declared.demand.DemandGrids.{DemandGrids}
-use Rattle.opt_tables.specs.declared.demand.Demand.{Demand}
 
 -- a basket says its name alone
 abbrev pub basket_line_of : Record → Result BasketLine Refusal
@@ -46,6 +43,16 @@ need_line_of row = do
 -- a need is known by its basket and its nutrient
 abbrev pub need_key : Record → NeedLine → Known
 need_key row line = Names (text_in row 1) (text_in row 2)
+
+-- the tables of the demand as they are split into fields, each with its own refusal where it has one
+pub record DemandGrids : Type 0 where
+  pub baskets : Result (List (List (List ℕ))) Refusal
+  pub needs : Result (List (List (List ℕ))) Refusal
+
+-- what the tables of the demand say but for the records that they name
+pub record Demand : Type 0 where
+  pub baskets : Lines BasketLine
+  pub needs : Lines NeedLine
 
 -- what the tables of the demand say, or their first refusal
 unfoldable pub demand_of : Settings → DemandGrids → Result Demand Refusal
@@ -80,12 +87,16 @@ only_demand diet = record { baskets = only_basket ∷ []; needs = needs_from 0 d
 abbrev pub basket_of : Record → BasketLine → Result Basket Refusal
 basket_of row line = Ok (record { basket = text_in row 1 })
 
--- a need, whose basket and nutrient are among those that are there
-abbrev pub need_of : Diet → Demand → Record → NeedLine → Result Need Refusal
-need_of diet demand row line = do
-  basket ← reference_in row 1 demand.baskets.keys
-  nutrient ← reference_in row 2 diet.nutrients.keys
+-- a need, whose basket and nutrient are among those that are known by these
+abbrev pub need_by : List Known → List Known → Record → NeedLine → Result Need Refusal
+need_by baskets nutrients row line = do
+  basket ← reference_in row 1 baskets
+  nutrient ← reference_in row 2 nutrients
   Ok (need_with basket nutrient line)
+
+-- the same of the baskets and nutrients that are there
+abbrev pub need_of : Diet → Demand → Record → NeedLine → Result Need Refusal
+need_of diet demand = need_by demand.baskets.keys diet.nutrients.keys
 
 -- the records of baskets and needs, with the numbers of those that they name
 abbrev pub own_demand : Diet → Demand → Result DemandTables Refusal

@@ -4,6 +4,7 @@ use Rattle.opt_base.specs.declared.refusal.File.TheVariants.{Commodities, Groups
 use Rattle.opt_base.specs.declared.refusal.Kind.TheVariants.{NoStepInRange, EmptyTable}
 use Rattle.opt_base.specs.declared.refusal.Refusal.{Refusal}
 use Rattle.opt_base.specs.Answers.{◌>>=◌}
+use Rattle.opt_model.specs.declared.limits.TheConstants.{RATION_LIMIT, GROUP_LIMIT, NEED_LIMIT, WEIGHT_LIMIT, CONTENT_LIMIT}
 use Rattle.opt_model.specs.Settings.{Settings, has_baskets}
 use Rattle.opt_model.specs.declared.records.Commodity.{Commodity}
 use Rattle.opt_model.specs.declared.records.Group.{Group}
@@ -18,17 +19,15 @@ use Rattle.opt_tables.specs.declared.groups.GroupLine.{GroupLine}
 use Rattle.opt_tables.specs.declared.nutrients.NutrientLine.{NutrientLine}
 use Rattle.opt_tables.specs.declared.needs.NeedLine.{NeedLine}
 use Rattle.opt_tables.specs.declared.contents.ContentLine.{ContentLine}
-use Rattle.opt_tables.specs.declared.diet.DietGrids.{DietGrids}
-use Rattle.opt_tables.specs.declared.diet.Diet.{Diet}
 
 -- a commodity's numbers: the greatest multiple of the step that is at most the greatest ration is at least the least ration
 abbrev pub commodity_line_of : Record → Result CommodityLine Refusal
 commodity_line_of row = do
   name ← name_in row 1
   group ← optional_name_in row 2
-  min_g ← number_in row 3 0 2000
-  max_g ← number_in row 4 0 2000
-  step_g ← number_in row 5 1 2000
+  min_g ← number_in row 3 0 RATION_LIMIT
+  max_g ← number_in row 4 0 RATION_LIMIT
+  step_g ← number_in row 5 1 RATION_LIMIT
   if nat_lt (max_g / step_g * step_g) min_g
       then Err (refused_at row 0 NoStepInRange)
       else Ok (record { min_g = min_g; max_g = max_g; step_g = step_g })
@@ -45,16 +44,16 @@ commodity_lines_in grid = lines_in commodity_line_of name_key Commodities grid >
 abbrev pub group_line_of : Record → Result GroupLine Refusal
 group_line_of row = do
   name ← name_in row 1
-  min_g ← number_in row 2 0 1000000
-  max_g ← number_in row 3 0 1000000
+  min_g ← number_in row 2 0 GROUP_LIMIT
+  max_g ← number_in row 3 0 GROUP_LIMIT
   Ok (record { min_g = min_g; max_g = max_g })
 
 -- what must be given of a nutrient, in three columns from this one on
 abbrev pub need_in : Record → ℕ → Result NeedLine Refusal
 need_in row column = do
-  required ← number_in row column 0 1000000000
-  max_short ← number_in row (column + 1) 0 1000000000
-  weight ← number_in row (column + 2) 0 1000000
+  required ← number_in row column 0 NEED_LIMIT
+  max_short ← number_in row (column + 1) 0 NEED_LIMIT
+  weight ← number_in row (column + 2) 0 WEIGHT_LIMIT
   Ok (record { required = required; max_short = max_short; weight = weight })
 
 -- nothing must be given
@@ -72,12 +71,26 @@ abbrev pub content_line_of : Record → Result ContentLine Refusal
 content_line_of row = do
   commodity ← name_in row 1
   nutrient ← name_in row 2
-  per_100g ← number_in row 3 0 1000000
+  per_100g ← number_in row 3 0 CONTENT_LIMIT
   Ok (record { per_100g = per_100g })
 
 -- a content is known by its commodity and its nutrient
 abbrev pub content_key : Record → ContentLine → Known
 content_key row line = Names (text_in row 1) (text_in row 2)
+
+-- the tables of the diet as they are split into fields, each with its own refusal where it has one
+pub record DietGrids : Type 0 where
+  pub commodities : Result (List (List (List ℕ))) Refusal
+  pub groups : Result (List (List (List ℕ))) Refusal
+  pub nutrients : Result (List (List (List ℕ))) Refusal
+  pub contents : Result (List (List (List ℕ))) Refusal
+
+-- what the tables of the diet say but for the records that they name
+pub record Diet : Type 0 where
+  pub commodities : Lines CommodityLine
+  pub groups : Lines GroupLine
+  pub nutrients : Lines NutrientLine
+  pub contents : Lines ContentLine
 
 -- what the tables of the diet say, or their first refusal
 unfoldable pub diet_of : Settings → DietGrids → Result Diet Refusal
@@ -95,11 +108,15 @@ pub record DietTables : Type 0 where
   pub nutrients : List Nutrient
   pub contents : List Content
 
--- a commodity, whose group is one of those that are there
-abbrev pub commodity_of : Diet → Record → CommodityLine → Result Commodity Refusal
-commodity_of diet row line =
-    optional_reference_in row 2 diet.groups.keys >>= λ group.
+-- a commodity, whose group is one of those that are known by these
+abbrev pub commodity_by : List Known → Record → CommodityLine → Result Commodity Refusal
+commodity_by groups row line =
+    optional_reference_in row 2 groups >>= λ group.
     Ok (record { commodity = text_in row 1; group = group; min_g = pos line.min_g; max_g = pos line.max_g; step_g = pos line.step_g })
+
+-- the same of the groups that are there
+abbrev pub commodity_of : Diet → Record → CommodityLine → Result Commodity Refusal
+commodity_of diet = commodity_by diet.groups.keys
 
 -- a group
 abbrev pub group_of : Record → GroupLine → Result Group Refusal
@@ -109,9 +126,13 @@ group_of row line = Ok (record { group = text_in row 1; min_g = pos line.min_g; 
 abbrev pub nutrient_of : Record → NutrientLine → Result Nutrient Refusal
 nutrient_of row line = Ok (record { nutrient = text_in row 1 })
 
--- a content, whose commodity and nutrient are among those that are there
-abbrev pub content_of : Diet → Record → ContentLine → Result Content Refusal
-content_of diet row line = do
-  commodity ← reference_in row 1 diet.commodities.keys
-  nutrient ← reference_in row 2 diet.nutrients.keys
+-- a content, whose commodity and nutrient are among those that are known by these
+abbrev pub content_by : List Known → List Known → Record → ContentLine → Result Content Refusal
+content_by commodities nutrients row line = do
+  commodity ← reference_in row 1 commodities
+  nutrient ← reference_in row 2 nutrients
   Ok (record { commodity = commodity; nutrient = nutrient; per_100g = pos line.per_100g })
+
+-- the same of the commodities and nutrients that are there
+abbrev pub content_of : Diet → Record → ContentLine → Result Content Refusal
+content_of diet = content_by diet.commodities.keys diet.nutrients.keys

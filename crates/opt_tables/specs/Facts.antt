@@ -4,7 +4,7 @@ use Rattle.std.specs.Prelude.{◌≡◌, ◌≢◌, ℕ, ◌^◌, ◌<◌, ◌�
 use Rattle.opt_model.specs.Settings.{has_baskets, has_lots}
 use Rattle.opt_model.specs.Tables.{Tables}
 use Rattle.opt_model.specs.Quantities.{least_steps, most_steps}
-use Rattle.opt_model.specs.declared.limits.TheConstants.{BASKET_LIMIT}
+use Rattle.opt_model.specs.declared.limits.TheConstants.{BASKET_LIMIT, RATION_LIMIT, GROUP_LIMIT, NEED_LIMIT, WEIGHT_LIMIT, CONTENT_LIMIT, KILOGRAM_LIMIT, PRICE_LIMIT, PERSON_LIMIT, MONTH_LIMIT, LEAD_LIMIT}
 use Rattle.opt_model.specs.declared.records.Commodity.{Commodity}
 use Rattle.opt_model.specs.declared.records.Group.{Group}
 use Rattle.opt_model.specs.declared.records.Content.{Content}
@@ -27,11 +27,11 @@ pub record IsFrom (low high z : ℤ) : Type 0 where
 
 -- kilograms
 abbrev pub IsKilograms : ℤ → Type 0
-IsKilograms z = IsFrom (pos 0) (pos (10 ^ 9)) z
+IsKilograms z = IsFrom (pos 0) (pos KILOGRAM_LIMIT) z
 
 -- mills per kilogram
 abbrev pub IsPrice : ℤ → Type 0
-IsPrice z = IsFrom (pos 0) (pos (10 ^ 6)) z
+IsPrice z = IsFrom (pos 0) (pos PRICE_LIMIT) z
 
 -- a month of the plan
 abbrev pub IsMonth : Tables → ℕ → Type 0
@@ -39,9 +39,9 @@ IsMonth t month = (1 ≤ month) × (month ≤ t.settings.months)
 
 -- the numbers of a commodity are in their ranges, and a multiple of the step lies from the least to the greatest ration
 pub record IsCommodity (r : Commodity) : Type 0 where
-  pub min_g : IsFrom (pos 0) (pos 2000) r.min_g
-  pub max_g : IsFrom (pos 0) (pos 2000) r.max_g
-  pub step_g : IsFrom (pos 1) (pos 2000) r.step_g
+  pub min_g : IsFrom (pos 0) (pos RATION_LIMIT) r.min_g
+  pub max_g : IsFrom (pos 0) (pos RATION_LIMIT) r.max_g
+  pub step_g : IsFrom (pos 1) (pos RATION_LIMIT) r.step_g
   pub has_step : least_steps r ≤ℤ most_steps r
 
 -- the group of a commodity, where it has one, is there
@@ -50,14 +50,14 @@ IsGrouped t r = IfSome r.group (λ group. group < length t.groups)
 
 -- the numbers of a group are in their ranges
 pub record IsGroup (r : Group) : Type 0 where
-  pub min_g : IsFrom (pos 0) (pos (10 ^ 6)) r.min_g
-  pub max_g : IsFrom (pos 0) (pos (10 ^ 6)) r.max_g
+  pub min_g : IsFrom (pos 0) (pos GROUP_LIMIT) r.min_g
+  pub max_g : IsFrom (pos 0) (pos GROUP_LIMIT) r.max_g
 
 -- a content is that of a commodity and a nutrient that are there
 pub record IsContent (t : Tables) (r : Content) : Type 0 where
   pub commodity : r.commodity < length t.commodities
   pub nutrient : r.nutrient < length t.nutrients
-  pub per_100g : IsFrom (pos 0) (pos (10 ^ 6)) r.per_100g
+  pub per_100g : IsFrom (pos 0) (pos CONTENT_LIMIT) r.per_100g
 
 -- the numbers of a place are in their ranges
 pub record IsPlace (r : Place) : Type 0 where
@@ -77,8 +77,8 @@ pub record IsOffer (t : Tables) (r : Offer) : Type 0 where
   pub commodity : r.commodity < length t.commodities
   pub price : IsPrice r.price
   pub max_kg : IsKilograms r.max_kg
-  pub first : (1 ≤ r.first) × (r.first ≤ 36)
-  pub last : (1 ≤ r.last) × (r.last ≤ 36)
+  pub first : (1 ≤ r.first) × (r.first ≤ MONTH_LIMIT)
+  pub last : (1 ≤ r.last) × (r.last ≤ MONTH_LIMIT)
   pub fee : IsFrom (pos 0) (pos FEE_LIMIT) r.fee
   pub least : IsKilograms r.least
 
@@ -90,14 +90,14 @@ pub record IsArc (t : Tables) (r : Arc) : Type 0 where
   pub apart : r.to_place ≢ r.from_place
   pub cost : IsPrice r.cost
   pub capacity : IsKilograms r.capacity
-  pub lead : r.lead ≤ 12
+  pub lead : r.lead ≤ LEAD_LIMIT
 
 -- persons of a basket that is there are fed at a point
 pub record IsPersons (t : Tables) (r : Persons) : Type 0 where
   pub place : r.place < length t.places
   pub kind : kind_of t r.place ≡ Some Point
   pub month : IsMonth t r.month
-  pub persons : IsFrom (pos 0) (pos (10 ^ 7)) r.persons
+  pub persons : IsFrom (pos 0) (pos PERSON_LIMIT) r.persons
   pub basket : r.basket < length t.baskets
 
 -- stock is of a commodity that is there, at a place that is there
@@ -109,9 +109,9 @@ pub record IsStock (t : Tables) (r : Stock) : Type 0 where
 
 -- the numbers of a need are in their ranges
 pub record IsNeed (r : Need) : Type 0 where
-  pub required : IsFrom (pos 0) (pos (10 ^ 9)) r.required
-  pub max_short : IsFrom (pos 0) (pos (10 ^ 9)) r.max_short
-  pub weight : IsFrom (pos 0) (pos (10 ^ 6)) r.weight
+  pub required : IsFrom (pos 0) (pos NEED_LIMIT) r.required
+  pub max_short : IsFrom (pos 0) (pos NEED_LIMIT) r.max_short
+  pub weight : IsFrom (pos 0) (pos WEIGHT_LIMIT) r.weight
 
 -- a need is that of a basket for a nutrient that are there
 pub record IsNeedIn (t : Tables) (r : Need) : Type 0 where

@@ -7,9 +7,9 @@ use Rattle.opt_model.specs.Settings.{has_baskets}
 use Rattle.opt_model.specs.Columns.{columns_of}
 use Rattle.opt_read.specs.Grid.{grid_of}
 use Rattle.opt_tables.specs.Files.{ModelFiles, bytes_of, is_required}
-use Rattle.opt_tables.specs.declared.diet.DietGrids.{DietGrids}
-use Rattle.opt_tables.specs.declared.network.NetworkGrids.{NetworkGrids}
-use Rattle.opt_tables.specs.declared.demand.DemandGrids.{DemandGrids}
+use Rattle.opt_tables.specs.Diet.{DietGrids}
+use Rattle.opt_tables.specs.Network.{NetworkGrids}
+use Rattle.opt_tables.specs.Demand.{DemandGrids}
 
 -- whether a format has a table; one that it has not is not read
 abbrev pub is_table_of : ℕ → File → Bool

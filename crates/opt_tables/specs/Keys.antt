@@ -1,5 +1,6 @@
 -- What the records of a table are known by.
-use Rattle.std.specs.Prelude.{ℕ, Bool, false, ◌&&◌, ◌==◌, List, bytes_eq}
+use Rattle.std.specs.Prelude.{ℕ, Bool, false, ◌&&◌, ◌==◌, List, map, bytes_eq}
+use Rattle.std.specs.Borrow.{Bor}
 use Rattle.opt_tables.specs.declared.key.Key.{Key}
 use Rattle.opt_tables.specs.declared.key.Key.TheVariants as key
 
@@ -16,6 +17,10 @@ known_by (key.Name name) = Name name.now
 known_by (key.Names first second) = Names first.now second.now
 known_by (key.NameInMonth name month) = NameInMonth name.now month
 known_by (key.NamesInMonth first second month) = NamesInMonth first.now second.now month
+
+-- names by their bytes
+abbrev pub known_names : List (Bor (List ℕ)) → List Known
+known_names names = map (λ name. Name name.now) names
 
 -- whether two records are known by the same
 abbrev pub are_same : Known → Known → Bool

@@ -1,6 +1,7 @@
 pub mod Amounts
 pub mod Demand
 pub mod Diet
+pub mod Early
 pub mod Facts
 pub mod Fetched
 pub mod Files

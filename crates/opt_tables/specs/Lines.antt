@@ -43,6 +43,10 @@ lines_in line_of key_of file grid = grid >>= lines_of line_of key_of file
 abbrev pub name_key : {L : Type 0} → Record → L → Known
 name_key row line = Name (text_in row 1)
 
+-- the same lines without what the records are known by
+abbrev pub without_keys : {L : Type 0} → Lines L → Lines L
+without_keys lines = record { file = lines.file; rows = lines.rows; keys = []; lines = lines.lines }
+
 -- the records so far and that of one more line, where each is made of a record's fields and its line
 abbrev pub with_linked : {L R : Type 0} → (Record → L → Result R Refusal) → Lines L → ℕ → L → List R → Result (List R) Refusal
 with_linked record_of lines number line made = record_of (row_of lines.file lines.rows number) line >>= λ one. Ok (made ++ one ∷ [])
@@ -50,3 +54,8 @@ with_linked record_of lines number line made = record_of (row_of lines.file line
 -- the records of a table's lines, or the first that names a record which is not there
 abbrev pub records_of : {L R : Type 0} → (Record → L → Result R Refusal) → Lines L → Result (List R) Refusal
 records_of record_of lines = each (with_linked record_of lines) 1 [] lines.lines
+
+-- the records of a table, or the first refusal of what they name, of which nothing is said until all tables are judged; or the
+-- first refusal of the table's lines
+abbrev pub records_in : {L R : Type 0} → (Record → Result L Refusal) → (Record → L → Known) → (Record → L → Result R Refusal) → File → Result (List (List (List ℕ))) Refusal → Result (Result (List R) Refusal) Refusal
+records_in line_of key_of record_of file grid = lines_in line_of key_of file grid >>= λ lines. Ok (records_of record_of lines)

@@ -9,15 +9,9 @@ use Rattle.opt_read.specs.Settings.{settings_of}
 use Rattle.opt_tables.specs.Files.{ModelFiles, bytes_of, all_checked}
 use Rattle.opt_tables.specs.Grids.{diet_grids_of, network_grids_of, demand_grids_of}
 use Rattle.opt_tables.specs.Lines.{records_of}
-use Rattle.opt_tables.specs.Diet.{DietTables, diet_of, commodity_of, group_of, nutrient_of, content_of}
-use Rattle.opt_tables.specs.Network.{NetworkTables, network_of, place_of, offer_of, arc_of, persons_of, stock_of}
-use Rattle.opt_tables.specs.Demand.{DemandTables, demand_of, demand_records_of}
-use Rattle.opt_tables.specs.declared.diet.Diet.{Diet}
-use Rattle.opt_tables.specs.declared.diet.DietGrids.{DietGrids}
-use Rattle.opt_tables.specs.declared.network.Network.{Network}
-use Rattle.opt_tables.specs.declared.network.NetworkGrids.{NetworkGrids}
-use Rattle.opt_tables.specs.declared.demand.Demand.{Demand}
-use Rattle.opt_tables.specs.declared.demand.DemandGrids.{DemandGrids}
+use Rattle.opt_tables.specs.Diet.{Diet, DietGrids, DietTables, diet_of, commodity_of, group_of, nutrient_of, content_of}
+use Rattle.opt_tables.specs.Network.{Network, NetworkGrids, NetworkTables, network_of, place_of, offer_of, arc_of, persons_of, stock_of}
+use Rattle.opt_tables.specs.Demand.{Demand, DemandGrids, DemandTables, demand_of, demand_records_of}
 
 -- the records of the diet, with the numbers of those that they name
 unfoldable pub diet_records_of : Diet → Result DietTables Refusal

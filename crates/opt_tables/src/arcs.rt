@@ -1,9 +1,10 @@
 use crate::key::Key;
 use crate::lines::Line;
-use crate::link::{Link, TableLines};
+use crate::link::Link;
+use crate::network::NetworkNames;
 use crate::row::Row;
 use opt_base::{ModelFault, Refusal};
-use opt_model::{Arc, Name};
+use opt_model::{Arc, KILOGRAM_LIMIT, LEAD_LIMIT, Name, PRICE_LIMIT};
 use opt_read::Setup;
 use std::alloc::Global;
 
@@ -31,9 +32,9 @@ impl Line for ArcLine {
         row.name(2)?;
         row.name(3)?;
         Ok(ArcLine {
-            cost: row.number(4, 0, 1_000_000)?,
-            capacity: row.number(5, 0, 1_000_000_000)?,
-            lead: row.number(6, 0, 12)?,
+            cost: row.number(4, 0, PRICE_LIMIT)?,
+            capacity: row.number(5, 0, KILOGRAM_LIMIT)?,
+            lead: row.number(6, 0, LEAD_LIMIT)?,
         })
     }
 
@@ -42,19 +43,19 @@ impl Line for ArcLine {
     }
 }
 
-impl Link<Arc> for ArcLine {
-    ghost use Rattle.opt_tables.specs.Network.{arc_of};
+impl<'a> Link<Arc, NetworkNames<'a>> for ArcLine {
+    ghost use Rattle.opt_tables.specs.Network.{arc_by};
 
-    ghost record_of = { λ settings tables. arc_of tables.network };
+    ghost record_of = { λ settings names. arc_by names.places };
 
     fn link(
         &self,
         alloc: Global,
         row: &Row<'_>,
         _setup: &Setup,
-        tables: &TableLines<'_>,
+        names: &NetworkNames<'a>,
     ) -> Result<Arc, ModelFault> {
-        let places = &tables.network.places;
+        let places = &names.places;
         let from_place = row.reference(2, places.keys())?;
         let to_place = places.end(row, 3, from_place)?;
         Ok(Arc {

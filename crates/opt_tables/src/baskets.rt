@@ -3,7 +3,7 @@ ghost use Rattle.opt_tables.specs.Demand.{basket_lines_in, with_few};
 
 use crate::key::Key;
 use crate::lines::{Line, Lines};
-use crate::link::{Link, TableLines};
+use crate::link::Link;
 use crate::row::Row;
 use opt_base::{File, Kind, ModelFault, Refusal};
 use opt_model::{BASKET_LIMIT, Basket, Name, has_baskets};
@@ -32,17 +32,17 @@ impl Line for BasketLine {
     }
 }
 
-impl Link<Basket> for BasketLine {
+impl Link<Basket, ()> for BasketLine {
     ghost use Rattle.opt_tables.specs.Demand.{basket_of};
 
-    ghost record_of = { λ settings tables. basket_of };
+    ghost record_of = { λ settings named. basket_of };
 
     fn link(
         &self,
         alloc: Global,
         row: &Row<'_>,
         _setup: &Setup,
-        _tables: &TableLines<'_>,
+        _named: &(),
     ) -> Result<Basket, ModelFault> {
         Ok(Basket {
             basket: Name::new(alloc, row.text(1))?,

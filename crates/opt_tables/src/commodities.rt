@@ -2,11 +2,12 @@ ghost use Rattle.opt_base.specs.Answers.{Gives};
 ghost use Rattle.opt_tables.specs.Diet.{commodity_lines_in};
 
 use crate::key::Key;
+use crate::keys::Keys;
 use crate::lines::{Line, Lines};
-use crate::link::{Link, TableLines};
+use crate::link::Link;
 use crate::row::Row;
 use opt_base::{File, Kind, ModelFault, Refusal};
-use opt_model::{Commodity, Name};
+use opt_model::{Commodity, Name, RATION_LIMIT};
 use opt_read::{Cells, Setup};
 use std::alloc::Global;
 
@@ -32,9 +33,9 @@ impl Line for CommodityLine {
     fn read(row: &Row<'_>, _setup: &Setup) -> Result<CommodityLine, Refusal> {
         row.name(1)?;
         row.optional_name(2)?;
-        let min_g = row.number(3, 0, 2000)?;
-        let max_g = row.number(4, 0, 2000)?;
-        let step_g = row.number(5, 1, 2000)?;
+        let min_g = row.number(3, 0, RATION_LIMIT)?;
+        let max_g = row.number(4, 0, RATION_LIMIT)?;
+        let step_g = row.number(5, 1, RATION_LIMIT)?;
         if max_g / step_g * step_g < min_g {
             return Err(row.refused(0, Kind::NoStepInRange));
         }
@@ -50,19 +51,19 @@ impl Line for CommodityLine {
     }
 }
 
-impl Link<Commodity> for CommodityLine {
-    ghost use Rattle.opt_tables.specs.Diet.{commodity_of};
+impl<'a> Link<Commodity, Keys<'a>> for CommodityLine {
+    ghost use Rattle.opt_tables.specs.Diet.{commodity_by};
 
-    ghost record_of = { λ settings tables. commodity_of tables.diet };
+    ghost record_of = { λ settings groups. commodity_by groups };
 
     fn link(
         &self,
         alloc: Global,
         row: &Row<'_>,
         _setup: &Setup,
-        tables: &TableLines<'_>,
+        groups: &Keys<'a>,
     ) -> Result<Commodity, ModelFault> {
-        let group = row.optional_reference(2, tables.diet.groups.keys())?;
+        let group = row.optional_reference(2, groups)?;
         Ok(Commodity {
             commodity: Name::new(alloc, row.text(1))?,
             group,

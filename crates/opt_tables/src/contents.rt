@@ -1,9 +1,10 @@
+use crate::diet::DietNames;
 use crate::key::Key;
 use crate::lines::Line;
-use crate::link::{Link, TableLines};
+use crate::link::Link;
 use crate::row::Row;
 use opt_base::{ModelFault, Refusal};
-use opt_model::Content;
+use opt_model::{CONTENT_LIMIT, Content};
 use opt_read::Setup;
 use std::alloc::Global;
 
@@ -25,7 +26,7 @@ impl Line for ContentLine {
         row.name(1)?;
         row.name(2)?;
         Ok(ContentLine {
-            per_100g: row.number(3, 0, 1_000_000)?,
+            per_100g: row.number(3, 0, CONTENT_LIMIT)?,
         })
     }
 
@@ -34,21 +35,21 @@ impl Line for ContentLine {
     }
 }
 
-impl Link<Content> for ContentLine {
-    ghost use Rattle.opt_tables.specs.Diet.{content_of};
+impl<'a> Link<Content, DietNames<'a>> for ContentLine {
+    ghost use Rattle.opt_tables.specs.Diet.{content_by};
 
-    ghost record_of = { λ settings tables. content_of tables.diet };
+    ghost record_of = { λ settings diet. content_by diet.commodities.keys diet.nutrients.keys };
 
     fn link(
         &self,
         _alloc: Global,
         row: &Row<'_>,
         _setup: &Setup,
-        tables: &TableLines<'_>,
+        diet: &DietNames<'a>,
     ) -> Result<Content, ModelFault> {
         Ok(Content {
-            commodity: row.reference(1, tables.diet.commodities.keys())?,
-            nutrient: row.reference(2, tables.diet.nutrients.keys())?,
+            commodity: row.reference(1, diet.commodities.keys())?,
+            nutrient: row.reference(2, diet.nutrients.keys())?,
             per_100g: i64::from(self.per_100g),
         })
     }

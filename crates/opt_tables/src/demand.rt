@@ -1,42 +1,53 @@
-ghost use Rattle.std.specs.Prelude.{◌≡◌, ℕ, ◌^◌, ◌<◌, length, IfOk};
+ghost use Rattle.std.specs.Prelude.{◌≡◌, ℕ, ◌^◌, ◌<◌, [], ◌∷◌, length, IfOk};
 ghost use Rattle.opt_base.specs.declared.refusal.File.{File};
 ghost use Rattle.opt_base.specs.Answers.{Gives};
 ghost use Rattle.opt_tables.specs.Files.{bytes_of};
-ghost use Rattle.opt_tables.specs.Grids.{demand_grids_of};
-ghost use Rattle.opt_tables.specs.Demand.{only_basket, only_demand, own_demand, demand_of, demand_records_of};
+ghost use Rattle.opt_tables.specs.Demand.{only_basket};
+ghost use Rattle.opt_tables.specs.Early.{demand_grids_in, demand_read, only_needs_in, own_linked, demand_linked};
 
 use crate::baskets::{BasketLine, basket_lines};
-use crate::diet::Diet;
 use crate::files::Files;
 use crate::grids::table;
 use crate::lines::Lines;
-use crate::link::{TableLines, linked};
+use crate::link::{linked, linked_early, read_records};
 use crate::needs::{NeedLine, only_needs};
+use crate::network::Network;
+use crate::nutrients::NutrientLine;
+use crate::persons::PersonsLine;
+use crate::record_list::RecordList;
 use opt_base::{File, ModelFault, OutOfMemory, Refusal};
-use opt_model::{Basket, Name, Need, has_baskets};
+use opt_model::{Basket, Name, Need, Persons, has_baskets};
 use opt_read::{Cells, Setup};
 use std::alloc::Global;
 use std::marker::Model;
 
-/// The tables of the demand as they are split into fields, each with its own refusal where it has one.
+/// The table of the demand whose records others name, as it is split into fields, with its own refusal where it has
+/// one.
 #[derive(Drop)]
 pub struct DemandGrids {
     pub baskets: Result<Cells, Refusal>,
-    pub needs: Result<Cells, Refusal>,
 }
 
-/// What the tables of the demand say but for the records that they name.
+/// The tables that records of the demand name: those of the network and of the diet, and baskets.
+#[derive(Drop)]
+pub struct DemandNames<'a> {
+    pub network: Network<'a>,
+    pub baskets: Lines<'a, BasketLine>,
+}
+
+/// What all tables say. What persons and needs refuse of the records that they name waits.
 #[derive(Drop)]
 pub struct Demand<'a> {
-    pub baskets: Lines<'a, BasketLine>,
-    pub needs: Lines<'a, NeedLine>,
+    pub names: DemandNames<'a>,
+    pub persons: Result<RecordList<Persons>, Refusal>,
+    pub needs: Result<RecordList<Need>, Refusal>,
 }
 
 /// The records of the demand.
 #[derive(Debug, Drop)]
 pub struct DemandRecords {
-    pub baskets: Vec<Basket>,
-    pub needs: Vec<Need>,
+    pub baskets: RecordList<Basket>,
+    pub needs: RecordList<Need>,
 }
 
 impl Model for DemandRecords {
@@ -44,35 +55,44 @@ impl Model for DemandRecords {
 
     ghost Value = { DemandTables };
 
-    ghost view = { λ records. record { baskets = records.baskets.items; needs = records.needs.items } };
+    ghost view = { λ records. record { baskets = records.baskets; needs = records.needs } };
 }
 
 impl DemandGrids {
-    /// Splits the tables of the demand.
-    pub fn read(alloc: Global, files: &Files, format: u32) -> Result<DemandGrids, OutOfMemory>
+    /// Splits that table of the demand.
+    pub fn read(alloc: Global, files: &Files, setup: &Setup) -> Result<DemandGrids, OutOfMemory>
         requires { (file : File) → length (bytes_of files.now file) < 2 ^ 32 }
-        ensures { IfOk result (λ grids. grids ≡ demand_grids_of files.now format) }
+        ensures { IfOk result (λ grids. grids ≡ demand_grids_in files.now setup.now) }
     {
         Ok(DemandGrids {
-            baskets: table(alloc, files, format, File::Baskets)?,
-            needs: table(alloc, files, format, File::Needs)?,
+            baskets: table(alloc, files, setup.format(), File::Baskets)?,
         })
     }
 }
 
 impl<'a> Demand<'a> {
-    /// What the tables of the demand say, or their first refusal.
-    #[tactic(auto, unfolding(crate::specs::Demand::demand_of))]
+    /// What the tables of the demand say, and persons; or their first refusal.
+    #[tactic(auto, unfolding(crate::specs::Early::demand_read))]
     pub fn read(
         alloc: Global,
+        files: &Files,
         setup: &Setup,
         grids: &'a DemandGrids,
+        network: Network<'a>,
+        persons: Lines<'a, PersonsLine>,
     ) -> Result<Demand<'a>, ModelFault>
-        ensures { Gives (λ demand. demand) result (demand_of setup.now grids.now) }
+        requires { (file : File) → length (bytes_of files.now file) < 2 ^ 32 }
+        ensures { Gives (λ demand. demand) result
+            (demand_read files.now setup.now grids.now network.entry persons.entry) }
     {
+        let baskets = basket_lines(alloc, setup, &grids.baskets)?;
+        let names = DemandNames { network, baskets };
+        let persons = linked_early(alloc, persons, setup, &names)?;
+        let needs = read_records::<_, _, NeedLine>(alloc, File::Needs, files, setup, &names)?;
         Ok(Demand {
-            baskets: basket_lines(alloc, setup, &grids.baskets)?,
-            needs: Lines::read(alloc, File::Needs, setup, &grids.needs)?,
+            names,
+            persons,
+            needs,
         })
     }
 }
@@ -86,16 +106,19 @@ fn one_basket(alloc: Global) -> Result<Basket, OutOfMemory>
     })
 }
 
-/// The demand of a format without baskets of its own.
-fn one_demand(alloc: Global, diet: &Diet<'_>) -> Result<DemandRecords, OutOfMemory>
-    ensures { IfOk result (λ records. records ≡ only_demand diet.now) }
+/// What the one basket must give, in a format without baskets of its own.
+pub fn needs_of_one(
+    alloc: Global,
+    setup: &Setup,
+    nutrients: &Lines<'_, NutrientLine>,
+) -> Result<RecordList<Need>, OutOfMemory>
+    ensures { IfOk result (λ needs. needs ≡ only_needs_in setup.now nutrients.now) }
 {
-    let mut baskets = Vec::new(alloc);
-    baskets.push(one_basket(alloc)?)?;
-    Ok(DemandRecords {
-        baskets,
-        needs: only_needs(alloc, &diet.nutrients)?,
-    })
+    if has_baskets(setup.format()) {
+        Ok(RecordList::new(alloc))
+    } else {
+        only_needs(alloc, nutrients)
+    }
 }
 
 impl DemandRecords {
@@ -103,30 +126,42 @@ impl DemandRecords {
     fn own(
         alloc: Global,
         setup: &Setup,
-        tables: &TableLines<'_>,
+        baskets: Lines<'_, BasketLine>,
+        needs: Result<RecordList<Need>, Refusal>,
     ) -> Result<DemandRecords, ModelFault>
-        ensures { Gives (λ records. records) result (own_demand tables.now.diet tables.now.demand) }
+        ensures { Gives (λ records. records) result (own_linked baskets.entry needs) }
     {
-        let demand = &tables.demand;
         Ok(DemandRecords {
-            baskets: linked(alloc, &demand.baskets, setup, tables)?,
-            needs: linked(alloc, &demand.needs, setup, tables)?,
+            baskets: linked(alloc, baskets, setup, &())?,
+            needs: needs?,
         })
     }
 
-    /// The records of the demand under the settings' format.
-    #[tactic(auto, unfolding(crate::specs::Demand::demand_records_of))]
+    /// The demand of a format without baskets of its own.
+    fn only(alloc: Global, needs: RecordList<Need>) -> Result<DemandRecords, OutOfMemory>
+        ensures { IfOk result (λ records. records ≡ record { baskets = only_basket ∷ []; needs = needs }) }
+    {
+        let mut baskets = RecordList::new(alloc);
+        baskets.push(one_basket(alloc)?)?;
+        Ok(DemandRecords { baskets, needs })
+    }
+
+    /// The records of the demand under the settings' format: those of its tables, or one basket with these needs.
+    #[tactic(auto, unfolding(crate::specs::Early::demand_linked))]
     pub fn link(
         alloc: Global,
         setup: &Setup,
-        tables: &TableLines<'_>,
+        baskets: Lines<'_, BasketLine>,
+        needs: Result<RecordList<Need>, Refusal>,
+        only: RecordList<Need>,
     ) -> Result<DemandRecords, ModelFault>
-        ensures { Gives (λ records. records) result (demand_records_of setup.now tables.now.diet tables.now.demand) }
+        ensures { Gives (λ records. records) result
+            (demand_linked setup.now baskets.entry needs only) }
     {
         if has_baskets(setup.format()) {
-            DemandRecords::own(alloc, setup, tables)
+            DemandRecords::own(alloc, setup, baskets, needs)
         } else {
-            Ok(one_demand(alloc, &tables.diet)?)
+            Ok(DemandRecords::only(alloc, only)?)
         }
     }
 }

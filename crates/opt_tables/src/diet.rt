@@ -2,9 +2,7 @@ ghost use Rattle.std.specs.Prelude.{◌≡◌, ℕ, ◌^◌, ◌<◌, length, If
 ghost use Rattle.opt_base.specs.declared.refusal.File.{File};
 ghost use Rattle.opt_base.specs.Answers.{Gives};
 ghost use Rattle.opt_tables.specs.Files.{bytes_of};
-ghost use Rattle.opt_tables.specs.Grids.{diet_grids_of};
-ghost use Rattle.opt_tables.specs.Diet.{diet_of};
-ghost use Rattle.opt_tables.specs.Model.{diet_records_of};
+ghost use Rattle.opt_tables.specs.Early.{diet_grids_in, diet_names_of, diet_read, diet_linked};
 
 use crate::commodities::{CommodityLine, commodity_lines};
 use crate::contents::ContentLine;
@@ -12,39 +10,46 @@ use crate::files::Files;
 use crate::grids::table;
 use crate::groups::GroupLine;
 use crate::lines::Lines;
-use crate::link::{TableLines, linked};
+use crate::link::{linked, read_records};
 use crate::nutrients::NutrientLine;
+use crate::record_list::RecordList;
 use opt_base::{File, ModelFault, OutOfMemory, Refusal};
 use opt_model::{Commodity, Content, Group, Nutrient};
 use opt_read::{Cells, Setup};
 use std::alloc::Global;
 use std::marker::Model;
 
-/// The tables of the diet as they are split into fields, each with its own refusal where it has one.
+/// The tables of the diet whose records others name, as they are split into fields, each with its own refusal where
+/// it has one.
 #[derive(Drop)]
 pub struct DietGrids {
     pub commodities: Result<Cells, Refusal>,
     pub groups: Result<Cells, Refusal>,
     pub nutrients: Result<Cells, Refusal>,
-    pub contents: Result<Cells, Refusal>,
 }
 
-/// What the tables of the diet say but for the records that they name.
+/// What the tables of the diet say whose records others name, but for the records that they name themselves.
 #[derive(Drop)]
-pub struct Diet<'a> {
+pub struct DietNames<'a> {
     pub commodities: Lines<'a, CommodityLine>,
     pub groups: Lines<'a, GroupLine>,
     pub nutrients: Lines<'a, NutrientLine>,
-    pub contents: Lines<'a, ContentLine>,
+}
+
+/// What the tables of the diet say. What the contents refuse of the records that they name waits.
+#[derive(Drop)]
+pub struct Diet<'a> {
+    pub names: DietNames<'a>,
+    pub contents: Result<RecordList<Content>, Refusal>,
 }
 
 /// The records of the diet.
 #[derive(Debug, Drop)]
 pub struct DietRecords {
-    pub commodities: Vec<Commodity>,
-    pub groups: Vec<Group>,
-    pub nutrients: Vec<Nutrient>,
-    pub contents: Vec<Content>,
+    pub commodities: RecordList<Commodity>,
+    pub groups: RecordList<Group>,
+    pub nutrients: RecordList<Nutrient>,
+    pub contents: RecordList<Content>,
 }
 
 impl Model for DietRecords {
@@ -52,55 +57,84 @@ impl Model for DietRecords {
 
     ghost Value = { DietTables };
 
-    ghost view = { λ records. record { commodities = records.commodities.items; groups = records.groups.items; nutrients = records.nutrients.items; contents = records.contents.items } };
+    ghost view = { λ records. record {
+      commodities = records.commodities;
+      groups = records.groups;
+      nutrients = records.nutrients;
+      contents = records.contents;
+    } };
 }
 
 impl DietGrids {
-    /// Splits the tables of the diet.
-    pub fn read(alloc: Global, files: &Files, format: u32) -> Result<DietGrids, OutOfMemory>
+    /// Splits those tables of the diet.
+    pub fn read(alloc: Global, files: &Files, setup: &Setup) -> Result<DietGrids, OutOfMemory>
         requires { (file : File) → length (bytes_of files.now file) < 2 ^ 32 }
-        ensures { IfOk result (λ grids. grids ≡ diet_grids_of files.now format) }
+        ensures { IfOk result (λ grids. grids ≡ diet_grids_in files.now setup.now) }
     {
+        let format = setup.format();
         Ok(DietGrids {
             commodities: table(alloc, files, format, File::Commodities)?,
             groups: table(alloc, files, format, File::Groups)?,
             nutrients: table(alloc, files, format, File::Nutrients)?,
-            contents: table(alloc, files, format, File::Contents)?,
+        })
+    }
+}
+
+impl<'a> DietNames<'a> {
+    /// What those tables of the diet say, or their first refusal.
+    #[tactic(auto, unfolding(crate::specs::Early::diet_names_of))]
+    fn read(alloc: Global, setup: &Setup, grids: &'a DietGrids) -> Result<DietNames<'a>, ModelFault>
+        ensures { Gives (λ names. names) result (diet_names_of setup.now grids.now) }
+    {
+        Ok(DietNames {
+            commodities: commodity_lines(alloc, setup, &grids.commodities)?,
+            groups: Lines::read(alloc, File::Groups, setup, &grids.groups)?,
+            nutrients: Lines::read(alloc, File::Nutrients, setup, &grids.nutrients)?,
         })
     }
 }
 
 impl<'a> Diet<'a> {
     /// What the tables of the diet say, or their first refusal.
-    #[tactic(auto, unfolding(crate::specs::Diet::diet_of))]
-    pub fn read(alloc: Global, setup: &Setup, grids: &'a DietGrids) -> Result<Diet<'a>, ModelFault>
-        ensures { Gives (λ diet. diet) result (diet_of setup.now grids.now) }
+    #[tactic(auto, unfolding(crate::specs::Early::diet_read))]
+    pub fn read(
+        alloc: Global,
+        files: &Files,
+        setup: &Setup,
+        grids: &'a DietGrids,
+    ) -> Result<Diet<'a>, ModelFault>
+        requires { (file : File) → length (bytes_of files.now file) < 2 ^ 32 }
+        ensures { Gives (λ diet. diet) result (diet_read files.now setup.now grids.now) }
     {
-        Ok(Diet {
-            commodities: commodity_lines(alloc, setup, &grids.commodities)?,
-            groups: Lines::read(alloc, File::Groups, setup, &grids.groups)?,
-            nutrients: Lines::read(alloc, File::Nutrients, setup, &grids.nutrients)?,
-            contents: Lines::read(alloc, File::Contents, setup, &grids.contents)?,
-        })
+        let names = DietNames::read(alloc, setup, grids)?;
+        let contents = read_records::<_, _, ContentLine>(
+            alloc,
+            File::Contents,
+            files,
+            setup,
+            &names,
+        )?;
+        Ok(Diet { names, contents })
     }
 }
 
 impl DietRecords {
     /// The records of the diet, with the numbers of those that they name.
-    #[tactic(auto, unfolding(crate::specs::Model::diet_records_of))]
-    pub fn link(
-        alloc: Global,
-        setup: &Setup,
-        tables: &TableLines<'_>,
-    ) -> Result<DietRecords, ModelFault>
-        ensures { Gives (λ records. records) result (diet_records_of tables.now.diet) }
+    #[tactic(auto, unfolding(crate::specs::Early::diet_linked))]
+    pub fn link(alloc: Global, setup: &Setup, diet: Diet<'_>) -> Result<DietRecords, ModelFault>
+        ensures { Gives (λ records. records) result (diet_linked diet.entry) }
     {
-        let diet = &tables.diet;
+        let Diet { names, contents } = diet;
+        let DietNames {
+            commodities,
+            groups,
+            nutrients,
+        } = names;
         Ok(DietRecords {
-            commodities: linked(alloc, &diet.commodities, setup, tables)?,
-            groups: linked(alloc, &diet.groups, setup, tables)?,
-            nutrients: linked(alloc, &diet.nutrients, setup, tables)?,
-            contents: linked(alloc, &diet.contents, setup, tables)?,
+            commodities: linked(alloc, commodities, setup, groups.keys())?,
+            groups: linked(alloc, groups, setup, &())?,
+            nutrients: linked(alloc, nutrients, setup, &())?,
+            contents: contents?,
         })
     }
 }

@@ -14,11 +14,12 @@ use std::alloc::{AllocError, Global};
 /// contents.csv, places.csv, offers.csv, arcs.csv, persons.csv, stock.csv, baskets.csv, needs.csv.
 ///
 /// The first that is missing and must be there, or is too big, is refused; the outside failed only where the shelf's
-/// count of faults rose. After that no further file is got. Also where the shelf tells nothing, the files that are given
-/// are within their limits with none missing that must be there, and nothing else is refused than a missing or a too
-/// big file.
+/// count of faults rose. After that no further file is got. Also where the shelf tells nothing, the files that are
+/// given are within their limits with none missing that must be there, and nothing else is refused than a missing or
+/// a too big file.
 pub fn fetch<S: Shelf>(alloc: Global, shelf: &mut S, folder: &str) -> Result<Files, FetchFault>
-    ensures found { (held : HeldFiles) → S.files shelf.old ≡ Some held → Fetched result (fetch_of held folder.now) }
+    ensures found { (held : HeldFiles) → S.files shelf.old ≡ Some held
+        → Fetched result (fetch_of held folder.now) }
     ensures admitted { IfOk result (λ files. all_checked files ≡ Ok tt) }
     ensures refused { IfErr result (RefusesOne model_files) }
     ensures same { S.files shelf.new ≡ S.files shelf.old }
@@ -29,7 +30,8 @@ pub fn fetch<S: Shelf>(alloc: Global, shelf: &mut S, folder: &str) -> Result<Fil
 
 /// Gets the files of a folder one by one.
 fn fetch_all<S: Shelf>(alloc: Global, shelf: &mut S, folder: &str) -> Result<Files, FetchFault>
-    ensures told { (held : HeldFiles) → S.files shelf.old ≡ Some held → Fetched result (all_got held folder.now) }
+    ensures told { (held : HeldFiles) → S.files shelf.old ≡ Some held
+        → Fetched result (all_got held folder.now) }
     ensures each { IfOk result (GetsEach model_files no_files) }
     ensures refused { IfErr result (RefusesOne model_files) }
     ensures same { S.files shelf.new ≡ S.files shelf.old }
@@ -50,7 +52,8 @@ fn fetch_each<S: Shelf>(
     order: &[File],
     files: &mut Files,
 ) -> Result<(), FetchFault>
-    ensures told { (held : HeldFiles) → S.files shelf.old ≡ Some held → IsGot (λ _. files.new) result (each (with_got held folder.now) 0 files.old order.now) }
+    ensures told { (held : HeldFiles) → S.files shelf.old ≡ Some held
+        → IsGot (λ _. files.new) result (each (with_got held folder.now) 0 files.old order.now) }
     ensures each { OnOk result (GetsEach order.now files.old files.new) }
     ensures refused { IfErr result (RefusesOne order.now) }
     ensures same { S.files shelf.new ≡ S.files shelf.old }
@@ -70,7 +73,8 @@ fn fetch_file<S: Shelf>(
     folder: &str,
     file: File,
 ) -> Result<Option<Blob>, FetchFault>
-    ensures told { (held : HeldFiles) → S.files shelf.old ≡ Some held → IsGot (λ bytes. bytes) result (got held folder.now file) }
+    ensures told { (held : HeldFiles) → S.files shelf.old ≡ Some held
+        → IsGot (λ bytes. bytes) result (got held folder.now file) }
     ensures each { IfOk result (λ bytes. admitted file bytes ≡ Ok bytes) }
     ensures refused { IfErr result (RefusesOne (file ∷ [])) }
     ensures same { S.files shelf.new ≡ S.files shelf.old }
@@ -86,7 +90,8 @@ fn fetch_file<S: Shelf>(
 
 /// What was found of a file, if that is not refused.
 fn admitted(file: File, found: Found) -> Result<Option<Blob>, FetchFault>
-    ensures told { (bytes : Option (List ℕ)) → found ≡ found_of (limit_of file) bytes → IsGot (λ held. held) result (admitted file bytes) }
+    ensures told { (bytes : Option (List ℕ)) → found ≡ found_of (limit_of file) bytes
+        → IsGot (λ held. held) result (admitted file bytes) }
     ensures each { IsWithin (limit_of file) found → IfOk result (λ held. admitted file held ≡ Ok held) }
     ensures refused { IfErr result (RefusesOne (file ∷ [])) }
     ensures inside { result ≢ Err FetchFault.Outside }

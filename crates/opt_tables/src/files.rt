@@ -50,7 +50,20 @@ impl Model for Files {
 
     ghost Value = { ModelFiles };
 
-    ghost view = { λ files. record { settings = files.settings; commodities = files.commodities; groups = files.groups; nutrients = files.nutrients; contents = files.contents; places = files.places; offers = files.offers; arcs = files.arcs; persons = files.persons; stock = files.stock; baskets = files.baskets; needs = files.needs } };
+    ghost view = { λ files. record {
+      settings = files.settings;
+      commodities = files.commodities;
+      groups = files.groups;
+      nutrients = files.nutrients;
+      contents = files.contents;
+      places = files.places;
+      offers = files.offers;
+      arcs = files.arcs;
+      persons = files.persons;
+      stock = files.stock;
+      baskets = files.baskets;
+      needs = files.needs;
+    } };
 }
 
 impl Files {

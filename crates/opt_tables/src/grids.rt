@@ -19,8 +19,9 @@ fn is_table(format: u32, file: File) -> bool
     }
 }
 
-/// The fields of a table's records; none where the format has no such table, or the file need not be there and holds no byte.
-fn cells(alloc: Global, files: &Files, format: u32, file: File) -> Result<Cells, ModelFault>
+/// The fields of a table's records; none where the format has no such table, or the file need not be there and holds
+/// no byte.
+pub fn cells(alloc: Global, files: &Files, format: u32, file: File) -> Result<Cells, ModelFault>
     requires { length (bytes_of files.now file) < 2 ^ 32 }
     ensures { Gives (λ cells. cells) result (rows_in files.now format file) }
 {

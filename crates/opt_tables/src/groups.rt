@@ -1,9 +1,9 @@
 use crate::key::Key;
 use crate::lines::Line;
-use crate::link::{Link, TableLines};
+use crate::link::Link;
 use crate::row::Row;
 use opt_base::{ModelFault, Refusal};
-use opt_model::{Group, Name};
+use opt_model::{GROUP_LIMIT, Group, Name};
 use opt_read::Setup;
 use std::alloc::Global;
 
@@ -27,8 +27,8 @@ impl Line for GroupLine {
     fn read(row: &Row<'_>, _setup: &Setup) -> Result<GroupLine, Refusal> {
         row.name(1)?;
         Ok(GroupLine {
-            min_g: row.number(2, 0, 1_000_000)?,
-            max_g: row.number(3, 0, 1_000_000)?,
+            min_g: row.number(2, 0, GROUP_LIMIT)?,
+            max_g: row.number(3, 0, GROUP_LIMIT)?,
         })
     }
 
@@ -37,17 +37,17 @@ impl Line for GroupLine {
     }
 }
 
-impl Link<Group> for GroupLine {
+impl Link<Group, ()> for GroupLine {
     ghost use Rattle.opt_tables.specs.Diet.{group_of};
 
-    ghost record_of = { λ settings tables. group_of };
+    ghost record_of = { λ settings named. group_of };
 
     fn link(
         &self,
         alloc: Global,
         row: &Row<'_>,
         _setup: &Setup,
-        _tables: &TableLines<'_>,
+        _named: &(),
     ) -> Result<Group, ModelFault> {
         Ok(Group {
             group: Name::new(alloc, row.text(1))?,

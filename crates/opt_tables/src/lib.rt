@@ -24,6 +24,7 @@ mod offers;
 mod persons;
 mod places;
 mod reading;
+mod record_list;
 mod row;
 mod stock;
 mod tables;

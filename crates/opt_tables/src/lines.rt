@@ -1,7 +1,7 @@
 ghost use Rattle.std.specs.Prelude.{◌≡◌, ◌↔◌, ◌+◌, ◌-◌, ◌^◌, ◌<◌, [], IsTrue, OnOk, length, slice_index_or, slice_get, option_copied};
 ghost use Rattle.opt_base.specs.Answers.{Gives};
 ghost use Rattle.opt_tables.specs.Records.{row_of};
-ghost use Rattle.opt_tables.specs.Lines.{no_lines, with_line, lines_of, lines_in};
+ghost use Rattle.opt_tables.specs.Lines.{no_lines, with_line, lines_of, lines_in, without_keys};
 
 use crate::key::Key;
 use crate::keys::Keys;
@@ -49,9 +49,15 @@ impl<'a, L> Model for Lines<'a, L> {
 
     ghost Value = { Table L };
 
-    ghost view = { λ table. record { file = table.file; rows = table.cells.now; keys = table.keys; lines = table.lines.items } };
+    ghost view = { λ table. record {
+      file = table.file;
+      rows = table.cells.now;
+      keys = table.keys;
+      lines = table.lines.items;
+    } };
 
-    ghost invariant = { λ table. (length table.lines.items ≤ length table.keys) × (length table.lines.items < 2 ^ 32) };
+    ghost invariant = { λ table.
+        (length table.lines.items ≤ length table.keys) × (length table.lines.items < 2 ^ 32) };
 }
 
 impl<'a, L: Drop> Lines<'a, L> {
@@ -67,13 +73,6 @@ impl<'a, L: Drop> Lines<'a, L> {
         }
     }
 
-    /// How many lines there are.
-    pub fn len(&self) -> u32
-        ensures { result ≡ length self.now.lines }
-    {
-        self.lines.len() as u32
-    }
-
     /// How many records the table has.
     pub fn rows(&self) -> u32
         ensures { result ≡ length self.now.rows }
@@ -86,6 +85,13 @@ impl<'a, L: Drop> Lines<'a, L> {
         ensures { IsTrue result ↔ (self.now.rows ≡ []) }
     {
         self.cells.is_empty()
+    }
+
+    /// How many lines there are.
+    pub fn len(&self) -> u32
+        ensures { result ≡ length self.now.lines }
+    {
+        self.lines.len() as u32
     }
 
     /// The line of this number, from 0.
@@ -103,19 +109,73 @@ impl<'a, L: Drop> Lines<'a, L> {
         self.lines.get(number as usize)
     }
 
+    /// What the records are known by, in file order.
+    pub fn keys(&self) -> &Keys<'a>
+        ensures { result.now ≡ self.now.keys }
+    {
+        &self.keys
+    }
+
+    /// The lines without what the records are known by, which takes most of the memory.
+    pub fn without_keys(self) -> KeylessLines<'a, L>
+        ensures { result ≡ without_keys self.entry }
+    {
+        let Lines {
+            file,
+            cells,
+            keys: _keys,
+            lines,
+        } = self;
+        KeylessLines { file, cells, lines }
+    }
+}
+
+/// The lines of a table in file order.
+#[derive(Drop)]
+pub struct KeylessLines<'a, L> {
+    file: File,
+    cells: &'a Cells,
+    lines: Vec<L>,
+}
+
+impl<'a, L> Model for KeylessLines<'a, L> {
+    ghost use Rattle.std.specs.Prelude.{[], ◌^◌, ◌<◌, length};
+    ghost use Rattle.opt_tables.specs.Lines.{Lines as Table};
+
+    ghost Value = { Table L };
+
+    ghost view = { λ table. record {
+      file = table.file;
+      rows = table.cells.now;
+      keys = [];
+      lines = table.lines.items;
+    } };
+
+    ghost invariant = { λ table. length table.lines.items < 2 ^ 32 };
+}
+
+impl<'a, L: Drop> KeylessLines<'a, L> {
+    /// How many lines there are.
+    pub fn len(&self) -> u32
+        ensures { result ≡ length self.now.lines }
+    {
+        self.lines.len() as u32
+    }
+
+    /// The line of this number, from 0.
+    pub fn line(&self, number: u32) -> &L
+        requires { number < length self.now.lines }
+        ensures { result.now ≡ slice_index_or self.now.lines number result.now }
+    {
+        &self.lines[number as usize]
+    }
+
     /// The record of the line of this number, from 0.
     pub fn row(&self, number: u32) -> Row<'a>
         requires { number < 2 ^ 32 - 1 }
         ensures { result ≡ row_of self.now.file self.now.rows (number + 1) }
     {
         Row::new(self.cells, self.file, number + 1)
-    }
-
-    /// What the records are known by, in file order.
-    pub fn keys(&self) -> &Keys<'a>
-        ensures { result.now ≡ self.now.keys }
-    {
-        &self.keys
     }
 }
 
@@ -127,7 +187,8 @@ impl<'a, L: Line> Lines<'a, L> {
         setup: &Setup,
         grid: &'a Result<Cells, Refusal>,
     ) -> Result<Lines<'a, L>, ModelFault>
-        ensures { Gives (λ lines. lines) result (lines_in (L.line_of setup.now) (L.key_of setup.now) file grid.now) }
+        ensures { Gives (λ lines. lines) result
+            (lines_in (L.line_of setup.now) (L.key_of setup.now) file grid.now) }
     {
         match grid {
             Ok(cells) => Lines::read_all(alloc, file, setup, cells),
@@ -136,13 +197,14 @@ impl<'a, L: Line> Lines<'a, L> {
     }
 
     /// The lines of a table, under the settings.
-    fn read_all(
+    pub fn read_all(
         alloc: Global,
         file: File,
         setup: &Setup,
         cells: &'a Cells,
     ) -> Result<Lines<'a, L>, ModelFault>
-        ensures { Gives (λ lines. lines) result (lines_of (L.line_of setup.now) (L.key_of setup.now) file cells.now) }
+        ensures { Gives (λ lines. lines) result
+            (lines_of (L.line_of setup.now) (L.key_of setup.now) file cells.now) }
     {
         let mut lines = Lines::new(alloc, file, cells);
         for i in 0..cells.len() {
@@ -154,7 +216,8 @@ impl<'a, L: Line> Lines<'a, L> {
     /// Adds the line of one more record.
     fn add(&mut self, row: &Row<'a>, setup: &Setup) -> Result<(), ModelFault>
         requires { length self.old.keys < 2 ^ 32 - 1 }
-        ensures read { Gives (λ _. self.new) result (with_line (L.line_of setup.now) (L.key_of setup.now) row.now self.old) }
+        ensures read { Gives (λ _. self.new) result
+            (with_line (L.line_of setup.now) (L.key_of setup.now) row.now self.old) }
         ensures more { OnOk result (length self.new.keys ≡ length self.old.keys + 1) }
     {
         let line = L::read(row, setup)?;

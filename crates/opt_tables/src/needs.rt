@@ -2,15 +2,17 @@ ghost use Rattle.std.specs.Prelude.{◌≡◌, ◌<◌, IfOk};
 ghost use Rattle.opt_tables.specs.Diet.{need_in, no_need};
 ghost use Rattle.opt_tables.specs.Demand.{needs_from, need_with};
 
+use crate::demand::DemandNames;
 use crate::key::Key;
 use crate::lines::{Line, Lines};
-use crate::link::{Link, TableLines};
+use crate::link::Link;
 use crate::nutrients::NutrientLine;
+use crate::record_list::RecordList;
 use crate::row::Row;
-use opt_base::{ModelFault, Refusal};
-use opt_model::Need;
+use opt_base::{ModelFault, OutOfMemory, Refusal};
+use opt_model::{NEED_LIMIT, Need, WEIGHT_LIMIT};
 use opt_read::Setup;
-use std::alloc::{AllocError, Global};
+use std::alloc::Global;
 
 /// What a record of needs.csv says but for its names.
 #[derive(Clone, Copy, Debug, PartialEq, Eq)]
@@ -37,9 +39,9 @@ impl NeedLine {
         ensures { result ≡ need_in row.now column }
     {
         Ok(NeedLine {
-            required: row.number(column, 0, 1_000_000_000)?,
-            max_short: row.number(column + 1, 0, 1_000_000_000)?,
-            weight: row.number(column + 2, 0, 1_000_000)?,
+            required: row.number(column, 0, NEED_LIMIT)?,
+            max_short: row.number(column + 1, 0, NEED_LIMIT)?,
+            weight: row.number(column + 2, 0, WEIGHT_LIMIT)?,
         })
     }
 
@@ -75,29 +77,33 @@ impl Line for NeedLine {
     }
 }
 
-impl Link<Need> for NeedLine {
-    ghost use Rattle.opt_tables.specs.Demand.{need_of};
+impl<'a> Link<Need, DemandNames<'a>> for NeedLine {
+    ghost use Rattle.opt_tables.specs.Demand.{need_by};
 
-    ghost record_of = { λ settings tables. need_of tables.diet tables.demand };
+    ghost record_of = { λ settings names. need_by names.baskets.keys names.network.names.diet.names.nutrients.keys };
 
     fn link(
         &self,
         _alloc: Global,
         row: &Row<'_>,
         _setup: &Setup,
-        tables: &TableLines<'_>,
+        names: &DemandNames<'a>,
     ) -> Result<Need, ModelFault> {
-        let basket = row.reference(1, tables.demand.baskets.keys())?;
-        let nutrient = row.reference(2, tables.diet.nutrients.keys())?;
+        let nutrients = &names.network.names.diet.names.nutrients;
+        let basket = row.reference(1, names.baskets.keys())?;
+        let nutrient = row.reference(2, nutrients.keys())?;
         Ok(self.need(basket, nutrient))
     }
 }
 
 /// What the one basket must give of each nutrient.
-pub fn only_needs(alloc: Global, lines: &Lines<'_, NutrientLine>) -> Result<Vec<Need>, AllocError>
-    ensures { IfOk result (λ needs. needs.items ≡ needs_from 0 lines.now.lines) }
+pub fn only_needs(
+    alloc: Global,
+    lines: &Lines<'_, NutrientLine>,
+) -> Result<RecordList<Need>, OutOfMemory>
+    ensures { IfOk result (λ needs. needs ≡ needs_from 0 lines.now.lines) }
 {
-    let mut needs = Vec::new(alloc);
+    let mut needs = RecordList::new(alloc);
     for i in 0..lines.len() {
         needs.push(lines.line(i).need.need(0, i))?;
     }

@@ -2,18 +2,18 @@ ghost use Rattle.std.specs.Prelude.{◌≡◌, ℕ, ◌^◌, ◌<◌, length, If
 ghost use Rattle.opt_base.specs.declared.refusal.File.{File};
 ghost use Rattle.opt_base.specs.Answers.{Gives};
 ghost use Rattle.opt_tables.specs.Files.{bytes_of};
-ghost use Rattle.opt_tables.specs.Grids.{network_grids_of};
-ghost use Rattle.opt_tables.specs.Network.{network_of};
-ghost use Rattle.opt_tables.specs.Model.{network_records_of};
+ghost use Rattle.opt_tables.specs.Early.{network_grids_in, network_read, network_linked};
 
 use crate::arcs::ArcLine;
+use crate::diet::Diet;
 use crate::files::Files;
 use crate::grids::table;
 use crate::lines::Lines;
-use crate::link::{TableLines, linked};
+use crate::link::{linked, read_records};
 use crate::offers::OfferLine;
 use crate::persons::PersonsLine;
 use crate::places::PlaceLine;
+use crate::record_list::RecordList;
 use crate::stock::StockLine;
 use opt_base::{File, ModelFault, OutOfMemory, Refusal};
 use opt_model::{Arc, Offer, Persons, Place, Stock};
@@ -21,34 +21,38 @@ use opt_read::{Cells, Setup};
 use std::alloc::Global;
 use std::marker::Model;
 
-/// The tables of the network as they are split into fields, each with its own refusal where it has one.
+/// The tables of the network that are kept for long, as they are split into fields, each with its own refusal where
+/// it has one: others name places, and persons name baskets, which are judged later.
 #[derive(Drop)]
 pub struct NetworkGrids {
     pub places: Result<Cells, Refusal>,
-    pub offers: Result<Cells, Refusal>,
-    pub arcs: Result<Cells, Refusal>,
     pub persons: Result<Cells, Refusal>,
-    pub stock: Result<Cells, Refusal>,
 }
 
-/// What the tables of the network say but for the records that they name.
+/// The tables that records of the network name: those of the diet, and places.
+#[derive(Drop)]
+pub struct NetworkNames<'a> {
+    pub diet: Diet<'a>,
+    pub places: Lines<'a, PlaceLine>,
+}
+
+/// What the tables of the network say but for persons. What they refuse of the records that they name waits.
 #[derive(Drop)]
 pub struct Network<'a> {
-    pub places: Lines<'a, PlaceLine>,
-    pub offers: Lines<'a, OfferLine>,
-    pub arcs: Lines<'a, ArcLine>,
-    pub persons: Lines<'a, PersonsLine>,
-    pub stock: Lines<'a, StockLine>,
+    pub names: NetworkNames<'a>,
+    pub offers: Result<RecordList<Offer>, Refusal>,
+    pub arcs: Result<RecordList<Arc>, Refusal>,
+    pub stock: Result<RecordList<Stock>, Refusal>,
 }
 
 /// The records of the network.
 #[derive(Debug, Drop)]
 pub struct NetworkRecords {
-    pub places: Vec<Place>,
-    pub offers: Vec<Offer>,
-    pub arcs: Vec<Arc>,
-    pub persons: Vec<Persons>,
-    pub stock: Vec<Stock>,
+    pub places: RecordList<Place>,
+    pub offers: RecordList<Offer>,
+    pub arcs: RecordList<Arc>,
+    pub persons: RecordList<Persons>,
+    pub stock: RecordList<Stock>,
 }
 
 impl Model for NetworkRecords {
@@ -56,62 +60,80 @@ impl Model for NetworkRecords {
 
     ghost Value = { NetworkTables };
 
-    ghost view = { λ records. record { places = records.places.items; offers = records.offers.items; arcs = records.arcs.items; persons = records.persons.items; stock = records.stock.items } };
+    ghost view = { λ records. record {
+      places = records.places;
+      offers = records.offers;
+      arcs = records.arcs;
+      persons = records.persons;
+      stock = records.stock;
+    } };
 }
 
 impl NetworkGrids {
-    /// Splits the tables of the network.
-    pub fn read(alloc: Global, files: &Files, format: u32) -> Result<NetworkGrids, OutOfMemory>
+    /// Splits those tables of the network.
+    pub fn read(alloc: Global, files: &Files, setup: &Setup) -> Result<NetworkGrids, OutOfMemory>
         requires { (file : File) → length (bytes_of files.now file) < 2 ^ 32 }
-        ensures { IfOk result (λ grids. grids ≡ network_grids_of files.now format) }
+        ensures { IfOk result (λ grids. grids ≡ network_grids_in files.now setup.now) }
     {
+        let format = setup.format();
         Ok(NetworkGrids {
             places: table(alloc, files, format, File::Places)?,
-            offers: table(alloc, files, format, File::Offers)?,
-            arcs: table(alloc, files, format, File::Arcs)?,
             persons: table(alloc, files, format, File::Persons)?,
-            stock: table(alloc, files, format, File::Stock)?,
         })
     }
 }
 
 impl<'a> Network<'a> {
-    /// What the tables of the network say, or their first refusal.
-    #[tactic(auto, unfolding(crate::specs::Network::network_of))]
+    /// What the tables of the network say, and the lines of persons; or their first refusal.
+    #[tactic(auto, unfolding(crate::specs::Early::network_read))]
     pub fn read(
         alloc: Global,
+        files: &Files,
         setup: &Setup,
         grids: &'a NetworkGrids,
-    ) -> Result<Network<'a>, ModelFault>
-        ensures { Gives (λ network. network) result (network_of setup.now grids.now) }
+        diet: Diet<'a>,
+    ) -> Result<(Network<'a>, Lines<'a, PersonsLine>), ModelFault>
+        requires { (file : File) → length (bytes_of files.now file) < 2 ^ 32 }
+        ensures { Gives (λ both. both) result
+            (network_read files.now setup.now grids.now diet.entry) }
     {
-        Ok(Network {
-            places: Lines::read(alloc, File::Places, setup, &grids.places)?,
-            offers: Lines::read(alloc, File::Offers, setup, &grids.offers)?,
-            arcs: Lines::read(alloc, File::Arcs, setup, &grids.arcs)?,
-            persons: Lines::read(alloc, File::Persons, setup, &grids.persons)?,
-            stock: Lines::read(alloc, File::Stock, setup, &grids.stock)?,
-        })
+        let places = Lines::read(alloc, File::Places, setup, &grids.places)?;
+        let names = NetworkNames { diet, places };
+        let offers = read_records::<_, _, OfferLine>(alloc, File::Offers, files, setup, &names)?;
+        let arcs = read_records::<_, _, ArcLine>(alloc, File::Arcs, files, setup, &names)?;
+        let persons = Lines::read(alloc, File::Persons, setup, &grids.persons)?;
+        let stock = read_records::<_, _, StockLine>(alloc, File::Stock, files, setup, &names)?;
+        let network = Network {
+            names,
+            offers,
+            arcs,
+            stock,
+        };
+        Ok((network, persons))
     }
 }
 
 impl NetworkRecords {
     /// The records of the network, with the numbers of those that they name.
-    #[tactic(auto, unfolding(crate::specs::Model::network_records_of))]
+    #[tactic(auto, unfolding(crate::specs::Early::network_linked))]
     pub fn link(
         alloc: Global,
         setup: &Setup,
-        tables: &TableLines<'_>,
+        places: Lines<'_, PlaceLine>,
+        offers: Result<RecordList<Offer>, Refusal>,
+        arcs: Result<RecordList<Arc>, Refusal>,
+        persons: Result<RecordList<Persons>, Refusal>,
+        stock: Result<RecordList<Stock>, Refusal>,
     ) -> Result<NetworkRecords, ModelFault>
-        ensures { Gives (λ records. records) result (network_records_of setup.now tables.now.diet tables.now.network tables.now.demand) }
+        ensures { Gives (λ records. records) result
+            (network_linked places.entry offers arcs persons stock) }
     {
-        let network = &tables.network;
         Ok(NetworkRecords {
-            places: linked(alloc, &network.places, setup, tables)?,
-            offers: linked(alloc, &network.offers, setup, tables)?,
-            arcs: linked(alloc, &network.arcs, setup, tables)?,
-            persons: linked(alloc, &network.persons, setup, tables)?,
-            stock: linked(alloc, &network.stock, setup, tables)?,
+            places: linked(alloc, places, setup, &())?,
+            offers: offers?,
+            arcs: arcs?,
+            persons: persons?,
+            stock: stock?,
         })
     }
 }

@@ -1,6 +1,6 @@
 use crate::key::Key;
 use crate::lines::Line;
-use crate::link::{Link, TableLines};
+use crate::link::Link;
 use crate::needs::{NO_NEED, NeedLine};
 use crate::row::Row;
 use opt_base::{ModelFault, Refusal};
@@ -11,7 +11,8 @@ use std::alloc::Global;
 /// What a record of nutrients.csv says but for the nutrient's name.
 #[derive(Clone, Copy, Debug, PartialEq, Eq)]
 pub struct NutrientLine {
-    /// What the one basket must give of the nutrient. In a format with baskets of its own it is 0 here: needs.csv says it.
+    /// What the one basket must give of the nutrient. In a format with baskets of its own it is 0 here: needs.csv
+    /// says it.
     pub need: NeedLine,
 }
 
@@ -38,17 +39,17 @@ impl Line for NutrientLine {
     }
 }
 
-impl Link<Nutrient> for NutrientLine {
+impl Link<Nutrient, ()> for NutrientLine {
     ghost use Rattle.opt_tables.specs.Diet.{nutrient_of};
 
-    ghost record_of = { λ settings tables. nutrient_of };
+    ghost record_of = { λ settings named. nutrient_of };
 
     fn link(
         &self,
         alloc: Global,
         row: &Row<'_>,
         _setup: &Setup,
-        _tables: &TableLines<'_>,
+        _named: &(),
     ) -> Result<Nutrient, ModelFault> {
         Ok(Nutrient {
             nutrient: Name::new(alloc, row.text(1))?,

@@ -3,10 +3,11 @@ ghost use Rattle.opt_tables.specs.Network.{lot_in};
 
 use crate::key::Key;
 use crate::lines::Line;
-use crate::link::{Link, TableLines};
+use crate::link::Link;
+use crate::network::NetworkNames;
 use crate::row::Row;
 use opt_base::{ModelFault, Refusal};
-use opt_model::{Name, Offer, PlaceKind, has_lots};
+use opt_model::{KILOGRAM_LIMIT, MONTH_LIMIT, Name, Offer, PRICE_LIMIT, PlaceKind, has_lots};
 use opt_read::Setup;
 use std::alloc::Global;
 
@@ -46,7 +47,7 @@ impl Lot {
             return Ok(Lot { fee: 0, least: 0 });
         }
         let fee = row.long_number(8, 0, FEE_LIMIT)?;
-        let least = row.number(9, 0, 1_000_000_000)?;
+        let least = row.number(9, 0, KILOGRAM_LIMIT)?;
         Ok(Lot {
             fee: fee as i64,
             least,
@@ -67,10 +68,10 @@ impl Line for OfferLine {
         row.name(2)?;
         row.name(3)?;
         Ok(OfferLine {
-            price: row.number(4, 0, 1_000_000)?,
-            max_kg: row.number(5, 0, 1_000_000_000)?,
-            first: row.number(6, 1, 36)?,
-            last: row.number(7, 1, 36)?,
+            price: row.number(4, 0, PRICE_LIMIT)?,
+            max_kg: row.number(5, 0, KILOGRAM_LIMIT)?,
+            first: row.number(6, 1, MONTH_LIMIT)?,
+            last: row.number(7, 1, MONTH_LIMIT)?,
             lot: Lot::in_row(row, setup)?,
         })
     }
@@ -80,21 +81,20 @@ impl Line for OfferLine {
     }
 }
 
-impl Link<Offer> for OfferLine {
-    ghost use Rattle.opt_tables.specs.Network.{offer_of};
+impl<'a> Link<Offer, NetworkNames<'a>> for OfferLine {
+    ghost use Rattle.opt_tables.specs.Network.{offer_by};
 
-    ghost record_of = { λ settings tables. offer_of tables.diet tables.network };
+    ghost record_of = { λ settings names. offer_by names.places names.diet.names.commodities.keys };
 
     fn link(
         &self,
         alloc: Global,
         row: &Row<'_>,
         _setup: &Setup,
-        tables: &TableLines<'_>,
+        names: &NetworkNames<'a>,
     ) -> Result<Offer, ModelFault> {
-        let places = &tables.network.places;
-        let place = places.of_kind(row, 2, PlaceKind::Supplier)?;
-        let commodity = row.reference(3, tables.diet.commodities.keys())?;
+        let place = names.places.of_kind(row, 2, PlaceKind::Supplier)?;
+        let commodity = row.reference(3, names.diet.names.commodities.keys())?;
         Ok(Offer {
             offer: Name::new(alloc, row.text(1))?,
             place,

@@ -1,13 +1,14 @@
 ghost use Rattle.std.specs.Prelude.{◌≡◌};
-ghost use Rattle.opt_tables.specs.Network.{basket_in};
+ghost use Rattle.opt_tables.specs.Network.{basket_by};
 
-use crate::demand::Demand;
+use crate::demand::DemandNames;
 use crate::key::Key;
+use crate::keys::Keys;
 use crate::lines::Line;
-use crate::link::{Link, TableLines};
+use crate::link::Link;
 use crate::row::Row;
 use opt_base::{ModelFault, Refusal};
-use opt_model::{Persons, PlaceKind, has_baskets};
+use opt_model::{PERSON_LIMIT, Persons, PlaceKind, has_baskets};
 use opt_read::Setup;
 use std::alloc::Global;
 
@@ -30,7 +31,7 @@ impl Line for PersonsLine {
     fn read(row: &Row<'_>, setup: &Setup) -> Result<PersonsLine, Refusal> {
         row.name(1)?;
         let month = row.number(2, 1, setup.months())?;
-        let persons = row.number(3, 0, 10_000_000)?;
+        let persons = row.number(3, 0, PERSON_LIMIT)?;
         if has_baskets(setup.format()) {
             row.name(4)?;
         }
@@ -46,20 +47,21 @@ impl Line for PersonsLine {
     }
 }
 
-impl Link<Persons> for PersonsLine {
-    ghost use Rattle.opt_tables.specs.Network.{persons_of};
+impl<'a> Link<Persons, DemandNames<'a>> for PersonsLine {
+    ghost use Rattle.opt_tables.specs.Network.{persons_by};
 
-    ghost record_of = { λ settings tables. persons_of settings tables.network tables.demand };
+    ghost record_of = { λ settings names. persons_by settings names.network.names.places names.baskets.keys };
 
     fn link(
         &self,
         _alloc: Global,
         row: &Row<'_>,
         setup: &Setup,
-        tables: &TableLines<'_>,
+        names: &DemandNames<'a>,
     ) -> Result<Persons, ModelFault> {
-        let place = tables.network.places.of_kind(row, 1, PlaceKind::Point)?;
-        let basket = tables.demand.basket(row, setup)?;
+        let places = &names.network.names.places;
+        let place = places.of_kind(row, 1, PlaceKind::Point)?;
+        let basket = basket(row, setup, names.baskets.keys())?;
         Ok(Persons {
             place,
             month: self.month,
@@ -69,15 +71,14 @@ impl Link<Persons> for PersonsLine {
     }
 }
 
-impl Demand<'_> {
-    /// The number of the basket that the column of baskets names; that of the one basket in a format without baskets of its own.
-    fn basket(&self, row: &Row<'_>, setup: &Setup) -> Result<u32, Refusal>
-        ensures { result ≡ basket_in setup.now row.now self.now }
-    {
-        if has_baskets(setup.format()) {
-            row.reference(4, self.baskets.keys())
-        } else {
-            Ok(0)
-        }
+/// The number of the basket that the column of baskets names; that of the one basket in a format without baskets of
+/// its own.
+fn basket(row: &Row<'_>, setup: &Setup, baskets: &Keys<'_>) -> Result<u32, Refusal>
+    ensures { result ≡ basket_by setup.now row.now baskets.now }
+{
+    if has_baskets(setup.format()) {
+        row.reference(4, baskets)
+    } else {
+        Ok(0)
     }
 }

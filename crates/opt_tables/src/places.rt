@@ -3,10 +3,10 @@ ghost use Rattle.opt_tables.specs.Network.{has_kind, place_of_kind_in, end_in};
 
 use crate::key::Key;
 use crate::lines::{Line, Lines};
-use crate::link::{Link, TableLines};
+use crate::link::Link;
 use crate::row::Row;
 use opt_base::{Kind, ModelFault, Refusal};
-use opt_model::{Name, Place, PlaceKind};
+use opt_model::{KILOGRAM_LIMIT, Name, PRICE_LIMIT, Place, PlaceKind};
 use opt_read::Setup;
 use std::alloc::Global;
 
@@ -36,10 +36,10 @@ impl Line for PlaceLine {
         row.name(1)?;
         Ok(PlaceLine {
             kind: row.place_kind(2)?,
-            storage: row.number(3, 0, 1_000_000_000)?,
-            throughput: row.optional_number(4, 0, 1_000_000_000)?,
-            handling: row.number(5, 0, 1_000_000)?,
-            storage_cost: row.number(6, 0, 1_000_000)?,
+            storage: row.number(3, 0, KILOGRAM_LIMIT)?,
+            throughput: row.optional_number(4, 0, KILOGRAM_LIMIT)?,
+            handling: row.number(5, 0, PRICE_LIMIT)?,
+            storage_cost: row.number(6, 0, PRICE_LIMIT)?,
         })
     }
 
@@ -48,17 +48,17 @@ impl Line for PlaceLine {
     }
 }
 
-impl Link<Place> for PlaceLine {
+impl Link<Place, ()> for PlaceLine {
     ghost use Rattle.opt_tables.specs.Network.{place_of};
 
-    ghost record_of = { λ settings tables. place_of };
+    ghost record_of = { λ settings named. place_of };
 
     fn link(
         &self,
         alloc: Global,
         row: &Row<'_>,
         _setup: &Setup,
-        _tables: &TableLines<'_>,
+        _named: &(),
     ) -> Result<Place, ModelFault> {
         Ok(Place {
             place: Name::new(alloc, row.text(1))?,
@@ -94,7 +94,8 @@ impl Lines<'_, PlaceLine> {
         }
     }
 
-    /// The number of the place that a column names, where an arc from the place `start` ends: no supplier, and not `start`.
+    /// The number of the place that a column names, where an arc from the place `start` ends: no supplier, and not
+    /// `start`.
     pub fn end(&self, row: &Row<'_>, column: u8, start: u32) -> Result<u32, Refusal>
         ensures { result ≡ end_in row.now column self.now start }
     {

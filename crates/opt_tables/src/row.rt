@@ -28,7 +28,11 @@ impl<'a> Model for Row<'a> {
 
     ghost Value = { Record };
 
-    ghost view = { λ row. record { file = row.file; number = row.number; fields = record_at row.cells.now row.number } };
+    ghost view = { λ row. record {
+      file = row.file;
+      number = row.number;
+      fields = record_at row.cells.now row.number;
+    } };
 }
 
 impl<'a> Row<'a> {
@@ -174,7 +178,8 @@ fn are_digits(bytes: &[u8]) -> bool
 /// The number that digits stand for, where it has at most 64 bits.
 fn digits(text: &str) -> Option<u64>
     requires { IsTrue (is_number text.now) }
-    ensures { MatchOption result (2 ^ 64 ≤ digits_value 10 text.now) (λ number. number ≡ digits_value 10 text.now) }
+    ensures { MatchOption result
+        (2 ^ 64 ≤ digits_value 10 text.now) (λ number. number ≡ digits_value 10 text.now) }
 {
     text.parse::<u64>().ok()
 }

@@ -1,9 +1,10 @@
 use crate::key::Key;
 use crate::lines::Line;
-use crate::link::{Link, TableLines};
+use crate::link::Link;
+use crate::network::NetworkNames;
 use crate::row::Row;
 use opt_base::{ModelFault, Refusal};
-use opt_model::Stock;
+use opt_model::{KILOGRAM_LIMIT, Stock};
 use opt_read::Setup;
 use std::alloc::Global;
 
@@ -28,7 +29,7 @@ impl Line for StockLine {
         row.name(2)?;
         Ok(StockLine {
             month: row.number(3, 1, setup.months())?,
-            kg: row.number(4, 0, 1_000_000_000)?,
+            kg: row.number(4, 0, KILOGRAM_LIMIT)?,
         })
     }
 
@@ -37,21 +38,21 @@ impl Line for StockLine {
     }
 }
 
-impl Link<Stock> for StockLine {
-    ghost use Rattle.opt_tables.specs.Network.{stock_of};
+impl<'a> Link<Stock, NetworkNames<'a>> for StockLine {
+    ghost use Rattle.opt_tables.specs.Network.{stock_by};
 
-    ghost record_of = { λ settings tables. stock_of tables.diet tables.network };
+    ghost record_of = { λ settings names. stock_by names.places names.diet.names.commodities.keys };
 
     fn link(
         &self,
         _alloc: Global,
         row: &Row<'_>,
         _setup: &Setup,
-        tables: &TableLines<'_>,
+        names: &NetworkNames<'a>,
     ) -> Result<Stock, ModelFault> {
         Ok(Stock {
-            place: row.reference(1, tables.network.places.keys())?,
-            commodity: row.reference(2, tables.diet.commodities.keys())?,
+            place: row.reference(1, names.places.keys())?,
+            commodity: row.reference(2, names.diet.names.commodities.keys())?,
             month: self.month,
             kg: i64::from(self.kg),
         })

@@ -1,10 +1,14 @@
+mod baskets;
+mod cases;
 mod columns;
 mod folders;
 mod formats;
 mod forms;
 mod likeness;
+mod lots;
 mod marks;
 mod models;
+mod needs;
 mod order;
 mod records;
 mod references;

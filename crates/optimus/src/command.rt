@@ -34,7 +34,8 @@ fn reply_of_plan<S: Shelf>(
     folder: &str,
     shelf: &mut S,
 ) -> Result<Reply, CommandFault>
-    ensures found { IfOk result (λ reply. (held : Held) → S.files shelf.old ≡ Some held → reply ≡ answer_of folder.now (model_in held folder.now)) }
+    ensures found { IfOk result (λ reply. (held : Held) → S.files shelf.old ≡ Some held
+        → reply ≡ answer_of folder.now (model_in held folder.now)) }
     ensures status { IfOk result (λ reply. (reply.status ≤ 3) × (reply.status ≢ 1)) }
     ensures same { S.files shelf.new ≡ S.files shelf.old }
     ensures cause { HasCause CommandFault.Outside (S.count shelf.old) (S.count shelf.new) result }
@@ -55,12 +56,17 @@ fn deliver_plan<S: Shelf, O: Sink, E: Sink>(
     out: &mut O,
     err: &mut E,
 ) -> u8
-    ensures told { (held : Held) → S.files shelf.old ≡ Some held → Delivers (answer_of folder.now (model_in held folder.now)) result
-        (standing (S.files shelf.old) (O.stream out.old) (E.stream err.old)) (standing (S.files shelf.new) (O.stream out.new) (E.stream err.new))
-        (faults (S.count shelf.old) (O.count out.old) (E.count err.old)) (faults (S.count shelf.new) (O.count out.new) (E.count err.new)) }
+    ensures told { (held : Held) → S.files shelf.old ≡ Some held
+        → Delivers (answer_of folder.now (model_in held folder.now)) result
+        (standing (S.files shelf.old) (O.stream out.old) (E.stream err.old))
+        (standing (S.files shelf.new) (O.stream out.new) (E.stream err.new))
+        (faults (S.count shelf.old) (O.count out.old) (E.count err.old))
+        (faults (S.count shelf.new) (O.count out.new) (E.count err.new)) }
     ensures always { DeliversSome result
-        (standing (S.files shelf.old) (O.stream out.old) (E.stream err.old)) (standing (S.files shelf.new) (O.stream out.new) (E.stream err.new))
-        (faults (S.count shelf.old) (O.count out.old) (E.count err.old)) (faults (S.count shelf.new) (O.count out.new) (E.count err.new)) }
+        (standing (S.files shelf.old) (O.stream out.old) (E.stream err.old))
+        (standing (S.files shelf.new) (O.stream out.new) (E.stream err.new))
+        (faults (S.count shelf.old) (O.count out.old) (E.count err.old))
+        (faults (S.count shelf.new) (O.count out.new) (E.count err.new)) }
 {
     match reply_of_plan(alloc, folder, shelf) {
         Ok(reply) => deliver(&reply, shelf, out, err),
@@ -69,11 +75,12 @@ fn deliver_plan<S: Shelf, O: Sink, E: Sink>(
     }
 }
 
-/// Reads the model of a folder, plans a basket of one month, puts `plan.csv` into the folder and prints the verdict's line.
-/// A model with groups, places, offers, arcs, persons or stock has no plan yet: it ends unfinished, and `plan.csv` holds no byte.
+/// Reads the model of a folder, plans a basket of one month, puts `plan.csv` into the folder and prints the verdict's
+/// line. A model with groups, places, offers, arcs, persons or stock has no plan yet: it ends unfinished, and
+/// `plan.csv` holds no byte.
 ///
-/// The status is 0 where a plan was found, 2 where the search stopped without one that is good enough, 3 where the model is
-/// refused, 4 only where the outside failed, 5 where memory ran out.
+/// The status is 0 where a plan was found, 2 where the search stopped without one that is good enough, 3 where the
+/// model is refused, 4 only where the outside failed, 5 where memory ran out.
 pub fn run_plan<S: Shelf, O: Sink, E: Sink>(
     alloc: Global,
     folder: &str,
@@ -82,22 +89,31 @@ pub fn run_plan<S: Shelf, O: Sink, E: Sink>(
     err: &mut E,
 ) -> u8
     // At 0 and 2 the printed verdict is true of the folder's model, and its plan is in the plan file.
-    ensures planned { (held : Held) → S.files shelf.old ≡ Some held → (result ≡ 0) ⊎ (result ≡ 2) → Planned held folder.now result
-        (standing (S.files shelf.old) (O.stream out.old) (E.stream err.old)) (standing (S.files shelf.new) (O.stream out.new) (E.stream err.new)) }
+    ensures planned { (held : Held) → S.files shelf.old ≡ Some held
+        → (result ≡ 0) ⊎ (result ≡ 2) → Planned held folder.now result
+        (standing (S.files shelf.old) (O.stream out.old) (E.stream err.old))
+        (standing (S.files shelf.new) (O.stream out.new) (E.stream err.new)) }
 
     // At 3 the folder's model is refused as the printed line says.
-    ensures refused { (held : Held) → S.files shelf.old ≡ Some held → result ≡ 3 → RefusedModel held folder.now
-        (standing (S.files shelf.old) (O.stream out.old) (E.stream err.old)) (standing (S.files shelf.new) (O.stream out.new) (E.stream err.new)) }
+    ensures refused { (held : Held) → S.files shelf.old ≡ Some held
+        → result ≡ 3 → RefusedModel held folder.now
+        (standing (S.files shelf.old) (O.stream out.old) (E.stream err.old))
+        (standing (S.files shelf.new) (O.stream out.new) (E.stream err.new)) }
 
     // Which answer it is, and that it is given whole, or in part at 4 and 5; 4 only where a count of faults rose.
-    ensures told { (held : Held) → S.files shelf.old ≡ Some held → Delivers (answer_of folder.now (model_in held folder.now)) result
-        (standing (S.files shelf.old) (O.stream out.old) (E.stream err.old)) (standing (S.files shelf.new) (O.stream out.new) (E.stream err.new))
-        (faults (S.count shelf.old) (O.count out.old) (E.count err.old)) (faults (S.count shelf.new) (O.count out.new) (E.count err.new)) }
+    ensures told { (held : Held) → S.files shelf.old ≡ Some held
+        → Delivers (answer_of folder.now (model_in held folder.now)) result
+        (standing (S.files shelf.old) (O.stream out.old) (E.stream err.old))
+        (standing (S.files shelf.new) (O.stream out.new) (E.stream err.new))
+        (faults (S.count shelf.old) (O.count out.old) (E.count err.old))
+        (faults (S.count shelf.new) (O.count out.new) (E.count err.new)) }
 
     // The same of some answer, also where the shelf tells nothing.
     ensures always { DeliversSome result
-        (standing (S.files shelf.old) (O.stream out.old) (E.stream err.old)) (standing (S.files shelf.new) (O.stream out.new) (E.stream err.new))
-        (faults (S.count shelf.old) (O.count out.old) (E.count err.old)) (faults (S.count shelf.new) (O.count out.new) (E.count err.new)) }
+        (standing (S.files shelf.old) (O.stream out.old) (E.stream err.old))
+        (standing (S.files shelf.new) (O.stream out.new) (E.stream err.new))
+        (faults (S.count shelf.old) (O.count out.old) (E.count err.old))
+        (faults (S.count shelf.new) (O.count out.new) (E.count err.new)) }
 {
     deliver_plan(alloc, folder, shelf, out, err)
 }

@@ -52,8 +52,10 @@ fn refuse_words<S: Shelf, O: Sink, E: Sink>(
     err: &mut E,
 ) -> u8
     ensures { Delivers refused_words result
-        (standing (S.files shelf.old) (O.stream out.old) (E.stream err.old)) (standing (S.files shelf.new) (O.stream out.new) (E.stream err.new))
-        (faults (S.count shelf.old) (O.count out.old) (E.count err.old)) (faults (S.count shelf.new) (O.count out.new) (E.count err.new)) }
+        (standing (S.files shelf.old) (O.stream out.old) (E.stream err.old))
+        (standing (S.files shelf.new) (O.stream out.new) (E.stream err.new))
+        (faults (S.count shelf.old) (O.count out.old) (E.count err.old))
+        (faults (S.count shelf.new) (O.count out.new) (E.count err.new)) }
 {
     match reply_to_words(alloc) {
         Ok(reply) => deliver(&reply, shelf, out, err),
@@ -63,8 +65,8 @@ fn refuse_words<S: Shelf, O: Sink, E: Sink>(
 
 /// Does what the words ask for: `plan FOLDER`. Other words are refused with status 3.
 ///
-/// The status is 0 where a plan was found, 2 where the search stopped without one that is good enough, 3 where the words or
-/// the model are refused, 4 only where the outside failed, 5 where memory ran out.
+/// The status is 0 where a plan was found, 2 where the search stopped without one that is good enough, 3 where the
+/// words or the model are refused, 4 only where the outside failed, 5 where memory ran out.
 pub fn optimus<S: Shelf, O: Sink, E: Sink>(
     alloc: Global,
     words: &[String],
@@ -74,25 +76,36 @@ pub fn optimus<S: Shelf, O: Sink, E: Sink>(
 ) -> u8
     // Words that are no form are refused.
     ensures words { folder_of (map string_bytes words.now) ≡ None → Delivers refused_words result
-        (standing (S.files shelf.old) (O.stream out.old) (E.stream err.old)) (standing (S.files shelf.new) (O.stream out.new) (E.stream err.new))
-        (faults (S.count shelf.old) (O.count out.old) (E.count err.old)) (faults (S.count shelf.new) (O.count out.new) (E.count err.new)) }
+        (standing (S.files shelf.old) (O.stream out.old) (E.stream err.old))
+        (standing (S.files shelf.new) (O.stream out.new) (E.stream err.new))
+        (faults (S.count shelf.old) (O.count out.old) (E.count err.old))
+        (faults (S.count shelf.new) (O.count out.new) (E.count err.new)) }
 
     // Else it is what `run_plan` says of the folder.
-    ensures planned { (folder : List ℕ) → folder_of (map string_bytes words.now) ≡ Some folder → (held : Held) → S.files shelf.old ≡ Some held
+    ensures planned { (folder : List ℕ) → folder_of (map string_bytes words.now) ≡ Some folder
+        → (held : Held) → S.files shelf.old ≡ Some held
         → (result ≡ 0) ⊎ (result ≡ 2) → Planned held folder result
-        (standing (S.files shelf.old) (O.stream out.old) (E.stream err.old)) (standing (S.files shelf.new) (O.stream out.new) (E.stream err.new)) }
-    ensures refused { (folder : List ℕ) → folder_of (map string_bytes words.now) ≡ Some folder → (held : Held) → S.files shelf.old ≡ Some held
+        (standing (S.files shelf.old) (O.stream out.old) (E.stream err.old))
+        (standing (S.files shelf.new) (O.stream out.new) (E.stream err.new)) }
+    ensures refused { (folder : List ℕ) → folder_of (map string_bytes words.now) ≡ Some folder
+        → (held : Held) → S.files shelf.old ≡ Some held
         → result ≡ 3 → RefusedModel held folder
-        (standing (S.files shelf.old) (O.stream out.old) (E.stream err.old)) (standing (S.files shelf.new) (O.stream out.new) (E.stream err.new)) }
-    ensures told { (folder : List ℕ) → folder_of (map string_bytes words.now) ≡ Some folder → (held : Held) → S.files shelf.old ≡ Some held
+        (standing (S.files shelf.old) (O.stream out.old) (E.stream err.old))
+        (standing (S.files shelf.new) (O.stream out.new) (E.stream err.new)) }
+    ensures told { (folder : List ℕ) → folder_of (map string_bytes words.now) ≡ Some folder
+        → (held : Held) → S.files shelf.old ≡ Some held
         → Delivers (answer_of folder (model_in held folder)) result
-        (standing (S.files shelf.old) (O.stream out.old) (E.stream err.old)) (standing (S.files shelf.new) (O.stream out.new) (E.stream err.new))
-        (faults (S.count shelf.old) (O.count out.old) (E.count err.old)) (faults (S.count shelf.new) (O.count out.new) (E.count err.new)) }
+        (standing (S.files shelf.old) (O.stream out.old) (E.stream err.old))
+        (standing (S.files shelf.new) (O.stream out.new) (E.stream err.new))
+        (faults (S.count shelf.old) (O.count out.old) (E.count err.old))
+        (faults (S.count shelf.new) (O.count out.new) (E.count err.new)) }
 
     // The same of some answer, also where the shelf tells nothing.
     ensures always { DeliversSome result
-        (standing (S.files shelf.old) (O.stream out.old) (E.stream err.old)) (standing (S.files shelf.new) (O.stream out.new) (E.stream err.new))
-        (faults (S.count shelf.old) (O.count out.old) (E.count err.old)) (faults (S.count shelf.new) (O.count out.new) (E.count err.new)) }
+        (standing (S.files shelf.old) (O.stream out.old) (E.stream err.old))
+        (standing (S.files shelf.new) (O.stream out.new) (E.stream err.new))
+        (faults (S.count shelf.old) (O.count out.old) (E.count err.old))
+        (faults (S.count shelf.new) (O.count out.new) (E.count err.new)) }
 {
     match folder_of_plan(words) {
         Some(folder) => run_plan(alloc, folder, shelf, out, err),

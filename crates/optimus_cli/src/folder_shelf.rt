@@ -1,12 +1,16 @@
 ghost use Rattle.std.specs.Prelude.{◌≡◌, IfOk, None};
 ghost use Rattle.opt_base.specs.Outside.{IsWithin};
 
-use opt_base::{Blob, Found, GetFault, PutFault, Shelf};
+use opt_base::{Blob, Found, GetFault, OutOfMemory, PutFault, Shelf};
 use std::alloc::Global;
 use std::fs::File;
 use std::io::{ErrorKind, Read};
 use std::rt::Files;
 use std::{fs, io};
+
+/// Room for any file, in bytes. So large a block is given back to the system as soon as the file is read; one of the
+/// file's own size would stay with the program, and with it whatever of that size is let go later.
+const READ_ROOM: usize = 1 << 26;
 
 /// The files of the system, by their paths. What they hold is not told.
 #[derive(Drop)]
@@ -62,7 +66,7 @@ fn read_at_most<R: Files>(rt: &R, alloc: Global, path: &str, max: u64) -> Result
         Err(error) if error.kind() == ErrorKind::NotFound => return Ok(Found::Missing),
         Err(error) => return Err(fault_of(&error)),
     };
-    let mut bytes = Vec::new(alloc);
+    let mut bytes = read_room(alloc)?;
     if let Err(error) = file.take(max.saturating_add(1)).read_to_end(&mut bytes) {
         return Err(fault_of(&error));
     }
@@ -70,6 +74,11 @@ fn read_at_most<R: Files>(rt: &R, alloc: Global, path: &str, max: u64) -> Result
         return Ok(Found::TooBig);
     }
     Ok(Found::Bytes(Blob::from_slice(alloc, &bytes)?))
+}
+
+/// No bytes, with room for any file.
+fn read_room(alloc: Global) -> Result<Vec<u8>, OutOfMemory> {
+    Ok(Vec::with_capacity(alloc, READ_ROOM)?)
 }
 
 /// What an error of the system means to the reader of a file.

@@ -3,17 +3,17 @@ use opt_base::{File, Kind, ModelFault};
 use std::alloc::{AllocError, Global};
 use std::test::Fail;
 
-const SECOND: &[u8] =
+pub const SECOND: &[u8] =
     b"format = 2\nmonths = 2\ndays = [30, 31]\ngoal = \"cost\"\ngap = 0\nnodes = 1000\n";
 
-const THIRD: &[u8] =
+pub const THIRD: &[u8] =
     b"format = 3\nmonths = 2\ndays = [30, 31]\ngoal = \"cost\"\ngap = 0\nnodes = 1000\n";
 
 const LOTS: &[u8] =
     b"offer,place,commodity,price,max_kg,first,last,fee,least\no1,S,rice,450,20000,1,1,1000000000000,18000\n";
 
 /// Rice at S, eaten at P by two baskets.
-const FOLDER: [Held<'static>; 9] = [
+pub const FOLDER: [Held<'static>; 9] = [
     Held(File::Settings, SECOND),
     Held(
         File::Commodities,

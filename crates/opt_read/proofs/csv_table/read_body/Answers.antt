@@ -31,7 +31,7 @@ pub new-requires : goal.new-requires
 new-requires c =
     let next = rw c.if-branch.false at c.in_ok-next.ensures in
     let counted = none-left c.args.rows.now c.loop-row.count [] c.loop-row.invariant.within (sym c.loop-row.invariant.rest ∙ next.0) in
-    let all = all-fields c.args.places.now c.args.rows.now c.loop-row.count (fields_of c.loop-row.fields) counted c.loop-row.invariant.fields in
+    let all = all-fields c.args.places.now c.args.rows.now c.loop-row.count c.loop-row.fields counted c.loop-row.invariant.fields in
     record { width_is = omega arith; all = all.0 }
 
 pub returns : goal.returns
@@ -39,6 +39,6 @@ returns c =
     let next = rw c.if-branch.false at c.in_ok-next.ensures in
     let counted = none-left c.args.rows.now c.loop-row.count [] c.loop-row.invariant.within (sym c.loop-row.invariant.rest ∙ next.0) in
     let places = c.args.places.now in
-    let all = all-fields places c.args.rows.now c.loop-row.count (fields_of c.loop-row.fields) counted c.loop-row.invariant.fields in
+    let all = all-fields places c.args.rows.now c.loop-row.count c.loop-row.fields counted c.loop-row.invariant.fields in
     let even : EvenBelow c.args.width c.args.rows.now (length c.args.rows.now) = subst (EvenBelow c.args.width c.args.rows.now) counted c.loop-row.invariant.even in
     rw c.new.ensures (even-read c.args.file c.args.width c.args.rows.now places even ∙ ap Ok (sym all.1))

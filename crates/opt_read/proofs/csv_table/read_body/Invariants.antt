@@ -1,6 +1,5 @@
 use Rattle.std.proofs.Common.{◌≡◌, ◌≤◌, drop, length, take}
 use Rattle.std.specs.List.{flat_map}
-use Rattle.csv.specs.Records.{fields_of}
 use Rattle.opt_read.proofs.BodyLemmas.{EvenBelow}
 use Rattle.opt_read.specs.Grid.{fields_at}
 use Rattle.opt_read.proofs.csv_table.read_body.Given as goal
@@ -10,7 +9,7 @@ invariant-loop-row l = record {
   rest : l.rows ≡ drop l.count l.initial.rows;
   within : l.count ≤ length l.initial.rows;
   even : EvenBelow l.width l.initial.rows l.count;
-  fields : fields_of l.fields ≡ flat_map (fields_at l.places) (take l.count l.initial.rows);
+  fields : l.fields ≡ flat_map (fields_at l.places) (take l.count l.initial.rows);
 }
 
 abbrev pub decreases-loop-row : goal.decreases-loop-row

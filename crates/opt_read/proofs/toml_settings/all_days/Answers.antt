@@ -1,7 +1,7 @@
 use Rattle.std.proofs.Common.{◌≡◌, ◌∙◌, ℕ, List, Option, Some, None, get_or, sym, ap}
 use Rattle.opt_read.specs.Settings.{or_out_of_range, integer_between}
 use Rattle.opt_read.specs.declared.key.Key.TheVariants as key
-use Rattle.opt_read.specs.declared.limits.TheConstants.{MAX_DAYS}
+use Rattle.opt_read.specs.declared.limits.TheConstants.{DAY_LIMIT}
 use Rattle.toml.specs.View.{view}
 use Rattle.toml.specs.declared.value.Value.{Value}
 use Rattle.opt_read.proofs.SettingLemmas.{then-none, there-end, there-more, there-not}
@@ -9,7 +9,7 @@ use Rattle.opt_read.proofs.toml_settings.all_days.Goals as goal
 
 -- the day that a value is
 abbrev day : Value → Option ℕ
-day value = integer_between 0 MAX_DAYS (view value)
+day value = integer_between 0 DAY_LIMIT (view value)
 
 pub loop-value-init : goal.loop-value-init
 loop-value-init c = rw c.new-days.ensures.items (then-none _)
