@@ -1,3 +1,4 @@
+pub mod WriteLemmas
 pub mod PiecesLemmas
 pub mod NumberLemmas
 pub mod JudgeLemmas
@@ -9,3 +10,8 @@ pub mod StepLemmas
 pub mod DecimalLemmas
 pub mod WordLemmas
 pub mod VerdictLemmas
+pub mod WordsBack
+pub mod LineAgain
+pub mod LineBack
+pub mod TextBack
+pub mod WholeLaws

@@ -1,5 +1,6 @@
 pub mod Numbers
 pub mod Texts
+pub mod Writing
 pub mod Forms
 pub mod Ranges
 pub mod Judging
@@ -9,3 +10,4 @@ pub mod Stands
 pub mod Steps
 pub mod Forests
 pub mod Codes
+pub mod Wholes

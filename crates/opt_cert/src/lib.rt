@@ -15,6 +15,8 @@ mod place;
 mod point_entries;
 mod reading;
 mod verdict_text;
+mod words;
+mod writing;
 
 pub use cert::{Cert, NodeList};
 pub use cert_fault::CertFault;
@@ -27,6 +29,9 @@ pub use place::Place;
 pub use point_entries::PointEntries;
 pub use reading::read;
 pub use verdict_text::{read_verdict, verdict_line};
+pub use writing::write;
 
 #[cfg(test)]
 mod tests;
+#[cfg(test)]
+mod write_tests;

@@ -1,11 +1,13 @@
 ghost use Rattle.std.specs.Prelude.{◌≡◌, ◌<◌, ◌^◌, ◌++◌, ◌∷◌, [], map, OnOk, IfOk, Bool, ℕ, is_some, length};
-ghost use Rattle.opt_tree.specs.Certificates.{IsCertificate, HasRanges, AreWritable, HasEntries, named_value};
+ghost use Rattle.opt_tree.specs.Certificates.{Certificate, IsCertificate, HasRanges, AreWritable, HasEntries, named_value};
+ghost use Rattle.opt_cert.specs.declared.cert_fault.CertFault.TheVariants.{Truncated, Trailing};
 ghost use Rattle.opt_cert.specs.declared.cert_line.CertLine.TheVariants as line;
 ghost use Rattle.opt_cert.specs.declared.place.Place.TheVariants as place;
 ghost use Rattle.opt_cert.specs.Forests.{AreTreeNodes};
 ghost use Rattle.opt_cert.specs.Reading.{Tells, lines_left, text_lines};
 ghost use Rattle.opt_cert.specs.Steps.{Passes, PassesNode};
-ghost use Rattle.opt_cert.specs.Texts.{lines_of, node_line};
+ghost use Rattle.opt_cert.specs.Texts.{certificate_text, lines_of, node_line};
+ghost use Rattle.opt_cert.specs.Wholes.{IsTextOf, IsFrontOf, IsLongerThan, IsOwnText, IsAnswer, IsRefusal};
 
 use crate::cert::{Cert, NodeList};
 use crate::cert_fault::CertFault;
@@ -22,13 +24,29 @@ pub fn read(alloc: Global, bytes: &[u8]) -> Result<Cert, CertFault>
     requires { length bytes.now < 2 ^ 32 }
     ensures lines { Tells (λ cert. lines_of cert) result (text_lines bytes.now) }
     ensures certificate { IfOk result (λ cert. IsCertificate cert) }
+    // The text of what is answered, and of each certificate its own answer.
+    ensures text { IfOk result (λ cert. bytes.now ≡ certificate_text cert) }
+    ensures back { (c : Certificate) → IsTextOf c bytes.now → IsAnswer result c }
+    // No certificate has the text of another, nor one that begins another's.
+    ensures own { IsOwnText bytes.now }
+    ensures front { (c : Certificate) → IsFrontOf c bytes.now → IsRefusal result Truncated }
+    ensures longer { (c : Certificate) → IsLongerThan c bytes.now → IsRefusal result Trailing }
 {
     let mut lines = Lines::new(bytes);
-    pass_header(alloc, &mut lines)?;
-    let verdict = verdict_line(alloc, &mut lines)?;
-    let root = root_line(alloc, &mut lines)?;
-    let point = point_line(alloc, &mut lines)?;
-    let nodes = node_lines(alloc, &mut lines)?;
+    certificate(alloc, &mut lines)
+}
+
+/// Reads a certificate from its first line to its last.
+fn certificate(alloc: Global, lines: &mut Lines<'_>) -> Result<Cert, CertFault>
+    requires { lines.old.place ≡ place.Header }
+    ensures lines { Tells (λ cert. lines_of cert) result (lines_left lines.old) }
+    ensures certificate { IfOk result (λ cert. IsCertificate cert) }
+{
+    pass_header(alloc, lines)?;
+    let verdict = verdict_line(alloc, lines)?;
+    let root = root_line(alloc, lines)?;
+    let point = point_line(alloc, lines)?;
+    let nodes = node_lines(alloc, lines)?;
     Ok(Cert {
         verdict,
         root,

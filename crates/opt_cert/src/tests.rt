@@ -84,8 +84,9 @@ const WRONG_LINES: [(usize, &str, CertFault); 48] = [
 ];
 
 /// Lines that may stand in place of the certificate's own: reading alone does not judge what they show.
-const OTHER_LINES: [(usize, &str); 5] = [
+const OTHER_LINES: [(usize, &str); 6] = [
     (2, "unfinished 85070591730234615865843651857942052864 0"),
+    (3, "root 1 1 0:1"),
     (3, "root 72057594037927936 0"),
     (4, "point 1 4294967295:9223372036854775807"),
     (5, "split 4294967295 9223372036854775807"),

@@ -18,7 +18,7 @@ pub fn verdict_line(alloc: Global, verdict: &Verdict) -> Result<Blob, OutOfMemor
 }
 
 /// The words of a verdict, parted by one space.
-fn text(alloc: Global, verdict: &Verdict) -> Result<String, AllocError>
+pub(crate) fn text(alloc: Global, verdict: &Verdict) -> Result<String, AllocError>
     ensures { IfOk result (λ text. string_bytes text ≡ verdict_text verdict.now) }
 {
     match verdict {

@@ -21,12 +21,16 @@ use Rattle.opt_cert.specs.declared.cert_line.CertLine.{CertLine}
 use Rattle.opt_cert.specs.declared.cert_line.CertLine.TheVariants as line
 use Rattle.opt_cert.specs.Reading.{Fails, text_lines}
 use Rattle.opt_cert.specs.Texts.{node_line, lines_of}
+use Rattle.opt_cert.specs.Wholes.{IsTextOf}
+use Rattle.opt_cert.proofs.WholeLaws.{text_back, text_forth, text_certificate}
 use Rattle.opt_check.specs.declared.bytes_fault.BytesFault.{BytesFault}
+use Rattle.opt_check.specs.declared.bytes_fault.BytesFault.TheVariants.{Cert, Check, OutOfMemory as BytesMemory}
 use Rattle.opt_check.specs.declared.progress.Progress.{Progress}
-use Rattle.opt_check.specs.Bytes.{IsRight, IsOfText, IsOfShown, of_cert_fault}
+use Rattle.opt_check.specs.Bytes.{HasCertificate, IsOfText, IsOfShown, IsTrueOfText, IsOwnFault, of_cert_fault}
 use Rattle.opt_check.specs.Claims.{look_claims, look_nodes}
 use Rattle.opt_check.specs.Progress.{first_progress, take_line, with_node, at_hand, after_line, answer_at, as_answer, answer_of}
 use Rattle.opt_check.proofs.CheckSteps.{shown_is}
+use Rattle.opt_check.proofs.NamedFaults.{shown_own}
 use Rattle.opt_check.proofs.BytesSteps.{take_lines, take_lines-append}
 
 -- ---- the lines of the nodes
@@ -96,11 +100,25 @@ lines_shown s gap limit c limited certificate =
     ∙ by_claims s gap limit c limited certificate (look_claims s gap c.verdict c.root c.point)
     ∙ ap (λ (x : Result Verdict CheckFault). x >>= λ v. Ok (v, node_count c.tree)) (sym (shown_is s gap limit c (preorder c.tree) refl))
 
+-- ---- the text
+-- a text without a fault is that of a certificate
+pub has_certificate : (bytes : List ℕ) (lines : List CertLine) → text_lines bytes ≡ Ok lines → HasCertificate bytes
+has_certificate bytes lines right =
+    let t = text_certificate bytes lines right in
+    record {
+      certificate = t.certificate;
+      text = record { certificate = t.is; written = text_forth t.certificate bytes (right ∙ ap Ok t.lines) };
+    }
+
+-- the text of a certificate has its lines
+pub lines_of_text : (bytes : List ℕ) (c : Certificate) → IsTextOf c bytes → text_lines bytes ≡ Ok (lines_of c)
+lines_of_text bytes c h = ap (λ xs. text_lines xs) h.written ∙ text_back c h.certificate
+
 -- ---- the answer
 -- what is answered at the end of a text is of this text
-pub of_text : (bytes : List ℕ) (x : Result (Verdict × ℕ) CheckFault) → IsRight bytes → IsOfText (as_answer x) bytes
-of_text bytes (Ok answer) right = right
-of_text bytes (Err fault) right = right
+pub of_text : (bytes : List ℕ) (x : Result (Verdict × ℕ) CheckFault) → HasCertificate bytes → IsOfText (as_answer x) bytes
+of_text bytes (Ok answer) h = h
+of_text bytes (Err fault) h = h
 
 of_shown_by : (count : ℕ) (r : Result Verdict CheckFault) → IsOfShown (as_answer (r >>= λ v. Ok (v, count))) r count
 of_shown_by count (Ok v) = (refl, refl)
@@ -140,3 +158,24 @@ fault_of_shown bytes Trailing lines r count failed right = cc
 
 pub same_lines : (bytes : List ℕ) (xs ys : List CertLine) → text_lines bytes ≡ Ok xs → text_lines bytes ≡ Ok ys → xs ≡ ys
 same_lines bytes xs ys first second = cc
+
+-- ---- of the text's own certificate
+-- a verdict that is true for each certificate of the text is true of the text
+pub true_of_text : (s : System) (gap : ℤ) (bytes : List ℕ) (r : Result (Verdict × ℕ) BytesFault) (h : HasCertificate bytes) → IfOk r (λ answer. IsTrueVerdict s gap answer.0 (listed_point (length s.cost) h.certificate.point)) → IfOk r (λ answer. IsTrueOfText s gap bytes answer.0)
+true_of_text s gap bytes (Ok answer) h is_true = record { certificate = h.certificate; text = h.text; is_true = is_true }
+true_of_text s gap bytes (Err fault) h is_true = tt
+
+-- ---- want of memory
+pub own_of_text : (fault : CertFault) → IsOwnFault (Err (of_cert_fault fault))
+own_of_text (BadLine n) = λ e. cc
+own_of_text (RangeFault n) = λ e. cc
+own_of_text (Order n) = λ e. cc
+own_of_text Truncated = λ e. cc
+own_of_text Trailing = λ e. cc
+own_of_text OutOfMemory = tt
+
+pub own_of_shown : (s : System) (gap : ℤ) (limit : ℕ) (c : Certificate) (r : Result (Verdict × ℕ) BytesFault) → IsOfShown r (shown s gap limit c) (node_count c.tree) → IsOwnFault r
+own_of_shown s gap limit c (Ok answer) h = tt
+own_of_shown s gap limit c (Err (Cert fault)) h = absurd h
+own_of_shown s gap limit c (Err (Check fault)) h = λ e. shown_own s gap limit c (h ∙ ap Err e)
+own_of_shown s gap limit c (Err BytesMemory) h = tt

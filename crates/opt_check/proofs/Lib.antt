@@ -4,4 +4,5 @@ pub mod BoxSteps
 pub mod NodeSteps
 pub mod CheckSteps
 pub mod BytesSteps
+pub mod NamedFaults
 pub mod BytesShown

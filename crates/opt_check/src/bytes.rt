@@ -1,13 +1,11 @@
 ghost use Rattle.std.specs.Prelude.{◌≡◌, ◌+◌, ◌^◌, ◌<◌, ◌≤◌, ◌≤ℤ◌, pos, All, length, IfOk};
 ghost use Rattle.opt_system.specs.Ranges.{LiesIn};
 ghost use Rattle.opt_tree.specs.declared.limits.TheConstants.{NODE_LIMIT};
-ghost use Rattle.opt_tree.specs.Certificates.{Certificate, IsCertificate, listed_point};
+ghost use Rattle.opt_tree.specs.Certificates.{Certificate};
 ghost use Rattle.opt_tree.specs.Shown.{shown};
 ghost use Rattle.opt_tree.specs.Trees.{node_count};
-ghost use Rattle.opt_tree.specs.Verdicts.{IsTrueVerdict};
-ghost use Rattle.opt_cert.specs.Reading.{text_lines};
-ghost use Rattle.opt_cert.specs.Texts.{lines_of};
-ghost use Rattle.opt_check.specs.Bytes.{IsOfText, IsOfShown, IsNext};
+ghost use Rattle.opt_cert.specs.Wholes.{IsTextOf};
+ghost use Rattle.opt_check.specs.Bytes.{IsOfText, IsOfShown, IsTrueOfText, IsOwnFault, IsNext};
 ghost use Rattle.opt_check.specs.Progress.{take_line, at_hand, after_line, answer_of};
 
 use crate::bytes_fault::BytesFault;
@@ -37,11 +35,11 @@ pub fn check_bytes(
     requires few_nodes { limit ≤ NODE_LIMIT }
     requires few { length bytes.now < 2 ^ 32 }
     ensures text { IsOfText result bytes.now }
-    ensures shown { (c : Certificate) → IsCertificate c → text_lines bytes.now ≡ Ok (lines_of c)
+    ensures shown { (c : Certificate) → IsTextOf c bytes.now
         → IsOfShown result (shown system.now gap limit c) (node_count c.tree) }
-    ensures true_verdict { (c : Certificate) → IsCertificate c → text_lines bytes.now ≡ Ok (lines_of c)
-        → IfOk result (λ answer. IsTrueVerdict system.now gap answer.0
-        (listed_point (length system.now.cost) c.point)) }
+    ensures true_verdict { IfOk result (λ answer.
+        IsTrueOfText system.now gap bytes.now answer.0) }
+    ensures own_fault { IsOwnFault result }
 {
     let _quantities = system.quantities();
     let terms = Terms { system, gap };

@@ -26,11 +26,12 @@ pub struct Terms<'a> {
     pub gap: i64,
 }
 
-/// The verdict of a certificate, where it shows it of the system, or the first fault: of the root line, of the point, of
-/// the nodes in the file's order, of all nodes together.
+/// The verdict of a certificate, where it shows it of the system, or the first fault: of the root line, of the point,
+/// of the nodes in the file's order, of all nodes together.
 ///
-/// `gap` is by how much the value may lie above the bound, at least 0, and `limit` how many nodes the tree may have, from 1
-/// to 1,000,000. It does not matter who wrote the certificate. It takes memory for the point and by the depth of the tree.
+/// `gap` is by how much the value may lie above the bound, at least 0, and `limit` how many nodes the tree may have,
+/// from 1 to 1,000,000. It does not matter who wrote the certificate. It takes memory for the point and by the depth
+/// of the tree.
 pub fn check(
     alloc: Global,
     system: &System,

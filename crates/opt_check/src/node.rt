@@ -4,7 +4,7 @@ ghost use Rattle.opt_system.specs.Ranges.{IsOrdered, LiesIn, Range as RangeValue
 ghost use Rattle.opt_system.specs.Cuts.{IsCut};
 ghost use Rattle.opt_system.specs.Systems.{System as SystemValue};
 ghost use Rattle.opt_tree.specs.declared.cert_node.CertNode.TheVariants.{Leaf, Split};
-ghost use Rattle.opt_tree.specs.Shown.{Known as KnownValue, is_cut, look_leaf, look_cut, fault_at};
+ghost use Rattle.opt_tree.specs.Shown.{Known as KnownValue, look_leaf, look_cut, fault_at};
 ghost use Rattle.opt_tree.specs.Reading.{take_node};
 ghost use Rattle.opt_check.specs.Answers.{Shows};
 
@@ -119,19 +119,9 @@ fn look_cut(range: &Range, seen: &mut Seen, cut: Cut) -> Result<(), CheckFault>
     ensures cut { OnOk result (IsCut range.now cut.quantity cut.at) }
     ensures ordered { OnOk result (IsOrdered range.now) }
 {
-    if !is_cut(range, cut) {
+    if !range.has_cut(cut.quantity, cut.at) {
         return Err(CheckFault::CutRange { node: seen.nodes });
     }
     seen.add_split();
     Ok(())
-}
-
-/// Whether both halves of the box keep a value.
-fn is_cut(range: &Range, cut: Cut) -> bool
-    ensures value { result ≡ is_cut range.now cut.quantity cut.at }
-    ensures cut { IsTrue result ↔ IsCut range.now cut.quantity cut.at }
-    ensures ordered { IsOrdered range.now }
-{
-    let j = cut.quantity as usize;
-    j < range.low().len() && range.low()[j] <= cut.at && cut.at < range.high()[j]
 }

@@ -1,11 +1,13 @@
 mod cases;
 mod deep;
+mod open_cases;
 mod rice;
 
 use crate::{BytesFault, check, check_bytes, line_of_cert_fault, line_of_check_fault};
-use cases::{CASES, Case};
+use cases::{Case, PLANS};
+use open_cases::{NO_PLANS, UNFINISHED};
 use opt_base::{ModelFault, OutOfMemory};
-use opt_cert::read;
+use opt_cert::{read, read_verdict};
 use opt_sums::{has_no_zero, is_rising};
 use opt_system::{Range, RowKind, RowList, System};
 use opt_tree::Verdict;
@@ -78,16 +80,13 @@ fn check_read(
     check(alloc, system, gap, limit, &cert).map_err(BytesFault::Check)
 }
 
-/// The line that is printed of the fault, or none where the text shows its verdict.
-fn refusal(
-    alloc: Global,
-    answer: Result<(Verdict, u32), BytesFault>,
-) -> Result<String, OutOfMemory> {
-    match answer {
-        Ok(_) => Ok("".to_string(alloc)?),
-        Err(BytesFault::Cert(fault)) => Ok(line_of_cert_fault(alloc, fault)?),
-        Err(BytesFault::Check(fault)) => Ok(line_of_check_fault(alloc, fault)?),
-        Err(BytesFault::OutOfMemory) => Err(OutOfMemory),
+/// The line that is printed of the fault, or none where there is no fault.
+fn refusal(alloc: Global, fault: Option<BytesFault>) -> Result<String, OutOfMemory> {
+    match fault {
+        None => Ok("".to_string(alloc)?),
+        Some(BytesFault::Cert(fault)) => Ok(line_of_cert_fault(alloc, fault)?),
+        Some(BytesFault::Check(fault)) => Ok(line_of_check_fault(alloc, fault)?),
+        Some(BytesFault::OutOfMemory) => Err(OutOfMemory),
     }
 }
 
@@ -100,23 +99,63 @@ fn system_of_case(rt: &impl Abort, alloc: Global, case: &Case) -> Result<System,
     system(rt, alloc, &rows, case.low, case.high, case.costs)
 }
 
-/// Certificates that an independent search wrote are accepted, and refused with another bound or another value.
+/// The certificate of a case, with another line in place of the one of this number.
+fn text_of_case(
+    alloc: Global,
+    case: &Case,
+    number: usize,
+    line: &str,
+) -> Result<String, OutOfMemory> {
+    let mut text = "optimus-certificate 1\n".to_string(alloc)?;
+    for (i, kept) in case.text.lines().enumerate() {
+        text.push_str(if i.saturating_add(2) == number {
+            line
+        } else {
+            kept
+        })?;
+        text.push('\n')?;
+    }
+    Ok(text)
+}
+
+/// Accepts the certificate of a case, whose second line is its verdict.
+fn accept(rt: &impl Abort, alloc: Global, system: &System, case: &Case) -> Result<(), Fail> {
+    let text = text_of_case(alloc, case, 0, "")?;
+    let text = text.as_str();
+    let claim = text.lines().nth(1).unwrap_or("");
+    let verdict = read_verdict(claim.as_bytes());
+    assert!(rt; verdict.is_some());
+    let answer = check_text(rt, alloc, system, case.gap, case.limit, text);
+    assert!(rt; answer.ok() == verdict.map(|verdict| (verdict, case.nodes)));
+    let answer = check_read(rt, alloc, system, case.gap, case.limit, text);
+    assert!(rt; answer.ok() == verdict);
+    Ok(())
+}
+
+/// Refuses the certificate of a case with each of its lines that is changed.
+fn refuse(rt: &impl Abort, alloc: Global, system: &System, case: &Case) -> Result<(), Fail> {
+    for (number, line, printed) in case.changes {
+        let text = text_of_case(alloc, case, *number, line)?;
+        let text = text.as_str();
+        let expected = format!(in alloc; "refused certificate.txt{printed}\n")?;
+        let answer = check_text(rt, alloc, system, case.gap, case.limit, text);
+        let refused = refusal(alloc, answer.err())?;
+        assert_eq!(rt; refused.as_str(), expected.as_str());
+        let answer = check_read(rt, alloc, system, case.gap, case.limit, text);
+        let refused = refusal(alloc, answer.err())?;
+        assert_eq!(rt; refused.as_str(), expected.as_str());
+    }
+    Ok(())
+}
+
+/// Certificates that an independent search wrote are accepted, and refused with a line that is changed.
 #[test]
 fn certificates_of_another_search(rt: HostRuntime) -> Result<(), Fail> {
     let alloc = rt.alloc();
-    for case in &CASES {
+    for case in PLANS.iter().chain(NO_PLANS.iter()).chain(UNFINISHED.iter()) {
         let system = system_of_case(&rt, alloc, case)?;
-        let text = format!(in alloc; "optimus-certificate 1\n{}\n{}", case.claim, case.proof)?;
-        let answer = check_text(&rt, alloc, &system, case.gap, case.limit, text.as_str());
-        assert!(rt; answer == Ok((case.verdict, case.nodes)));
-        let answer = check_read(&rt, alloc, &system, case.gap, case.limit, text.as_str());
-        assert!(rt; answer == Ok(case.verdict));
-        for (claim, line) in case.refused {
-            let text = format!(in alloc; "optimus-certificate 1\n{claim}\n{}", case.proof)?;
-            let answer = check_text(&rt, alloc, &system, case.gap, case.limit, text.as_str());
-            let printed = refusal(alloc, answer)?;
-            assert_eq!(rt; printed.as_str(), *line);
-        }
+        accept(&rt, alloc, &system, case)?;
+        refuse(&rt, alloc, &system, case)?;
     }
     Ok(())
 }

@@ -31,7 +31,7 @@ fn a_deep_tree(rt: HostRuntime) -> Result<(), Fail> {
     assert!(rt; answer == Ok((Verdict::NoPlan, 199_999)));
     let open = text(alloc, "leaf 1 0")?;
     let answer = check_text(&rt, alloc, &system, 0, 1_000_000, open.as_str());
-    let refused = refusal(alloc, answer)?;
+    let refused = refusal(alloc, answer.err())?;
     assert_eq!(rt;
         refused.as_str(),
         "refused certificate.txt node 199998: LeafOpen 0\n"

@@ -203,50 +203,63 @@ fn a_changed_line(rt: HostRuntime) -> Result<(), Fail> {
         }
         text.push_str(after)?;
         let answer = check_text(&rt, alloc, &system, 0, 1000, text.as_str());
-        let refused = refusal(alloc, answer)?;
+        let refused = refusal(alloc, answer.err())?;
         assert_eq!(rt; refused.as_str(), *printed);
     }
     Ok(())
 }
+
+/// The lines of the nodes, with what is printed after the file's name.
+const WRONG_NODES: [(&str, &str); 8] = [
+    // Two nodes with the same fault.
+    (
+        "split 0 58\nsplit 0 60\nleaf 0 1 0:1\nleaf 0 1 0:1\nsplit 0 58\nleaf 1 0\nleaf 1 0",
+        " node 1: CutRange",
+    ),
+    (
+        "split 0 58\nleaf 0 1 7:1\nleaf 0 1 6:1",
+        " node 1 row 7: RowNumber",
+    ),
+    (
+        "split 0 58\nleaf 0 1 1:-1\nleaf 0 1 0:-1",
+        " node 1 row 1: Sign",
+    ),
+    (
+        "split 0 58\nleaf 1 0\nleaf 1 0",
+        " node 1: LeafOpen 8750000",
+    ),
+    // Two nodes with different faults.
+    (
+        "split 0 60\nleaf 0 1 0:-1\nleaf 0 1 6:1",
+        " node 0: CutRange",
+    ),
+    (
+        "split 0 58\nleaf 0 1 0:-1\nleaf 0 1 6:1",
+        " node 1 row 0: Sign",
+    ),
+    (
+        "split 0 58\nleaf 0 1 6:1\nleaf 0 1 0:-1",
+        " node 1 row 6: RowNumber",
+    ),
+    (
+        "split 0 58\nleaf 1 0\nleaf 0 1 0:-1",
+        " node 1: LeafOpen 8750000",
+    ),
+];
 
 /// Of two nodes with a fault the first in the file's order is named.
 #[test]
 fn two_wrong_nodes(rt: HostRuntime) -> Result<(), Fail> {
     let alloc = rt.alloc();
     let system = rice(&rt, alloc)?;
-    let cases = [
-        (
-            "split 0 60",
-            "leaf 0 1 0:-1",
-            "leaf 0 1 6:1",
-            "refused certificate.txt node 0: CutRange\n",
-        ),
-        (
-            SPLIT,
-            "leaf 0 1 0:-1",
-            "leaf 0 1 6:1",
-            "refused certificate.txt node 1 row 0: Sign\n",
-        ),
-        (
-            SPLIT,
-            "leaf 0 1 6:1",
-            "leaf 0 1 0:-1",
-            "refused certificate.txt node 1 row 6: RowNumber\n",
-        ),
-        (
-            SPLIT,
-            "leaf 1 0",
-            "leaf 0 1 0:-1",
-            "refused certificate.txt node 1: LeafOpen 8750000\n",
-        ),
-    ];
-    for (split, left, right, printed) in cases {
+    for (nodes, printed) in &WRONG_NODES {
         let text = format!(in alloc;
-            "optimus-certificate 1\nplan 8850000 8850000\n{ROOT}\n{POINT}\n{split}\n{left}\n{right}\nend\n"
+            "optimus-certificate 1\nplan 8850000 8850000\n{ROOT}\n{POINT}\n{nodes}\nend\n"
         )?;
         let answer = check_text(&rt, alloc, &system, 0, 1000, text.as_str());
-        let refused = refusal(alloc, answer)?;
-        assert_eq!(rt; refused.as_str(), printed);
+        let refused = refusal(alloc, answer.err())?;
+        let expected = format!(in alloc; "refused certificate.txt{printed}\n")?;
+        assert_eq!(rt; refused.as_str(), expected.as_str());
     }
     Ok(())
 }
@@ -266,10 +279,10 @@ fn a_search_at_its_limit(rt: HostRuntime) -> Result<(), Fail> {
     let answer = check_text(&rt, alloc, &system, 0, 2, text.as_str());
     assert!(rt; answer == Ok((verdict, 1)));
     let answer = check_text(&rt, alloc, &system, 0, 3, text.as_str());
-    let refused = refusal(alloc, answer)?;
+    let refused = refusal(alloc, answer.err())?;
     assert_eq!(rt; refused.as_str(), "refused certificate.txt: UnderLimit 1\n");
     let answer = check_text(&rt, alloc, &system, 100_000, 2, text.as_str());
-    let refused = refusal(alloc, answer)?;
+    let refused = refusal(alloc, answer.err())?;
     assert_eq!(rt; refused.as_str(), "refused certificate.txt: NothingOpen\n");
     Ok(())
 }
