@@ -12,6 +12,9 @@ pub fn gcd(a: u128, b: u128) -> u128
         x = y;
         y = rest;
     }
+    if x <= u128::from(u64::MAX) {
+        return u128::from(short_gcd(x as u64, y as u64));
+    }
     if y == 0 {
         return x;
     }

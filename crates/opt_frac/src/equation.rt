@@ -1,4 +1,4 @@
-ghost use Rattle.std.specs.Prelude.{◌≡◌, ◌≢◌, ◌↔◌, [], ◌*ℤ◌, ◌≤ℤ◌, pos, IfOk, IsTrue, OnErr};
+ghost use Rattle.std.specs.Prelude.{◌≡◌, ◌≢◌, ◌↔◌, [], ◌*ℤ◌, ◌≤ℤ◌, pos, IfOk, IsTrue, OnErr, OnOk};
 ghost use Rattle.opt_sums.specs.Entries.{coef};
 ghost use Rattle.opt_frac.specs.Equations.{HasTerm, IsReduced, equation_of};
 ghost use Rattle.opt_frac.specs.Elimination.{eliminated, negated_if, summed, whole, without};
@@ -19,8 +19,8 @@ use std::mem;
 /// An equation solved for one of its variables, the basic one, in lowest terms:
 /// its lead times the basic variable is the sum of each coefficient times its variable.
 ///
-/// The lead is at least 1, the terms go by rising variable, none of them is 0 or at the basic variable, and the greatest
-/// common divisor of the lead and all coefficients is 1. No number is -2^127.
+/// The lead is at least 1, the terms go by rising variable, none of them is 0 or at the basic variable, and the
+/// greatest common divisor of the lead and all coefficients is 1. No number is -2^127.
 #[derive(Debug, Drop)]
 pub struct Equation {
     basic: u32,
@@ -43,8 +43,8 @@ impl Equation {
     ghost use Rattle.opt_frac.specs.Elimination.{turned as turned_of};
     ghost use Rattle.opt_frac.specs.Replacing.{Replaces, ReplacesIn};
 
-    /// Whether an equation may be made of this basic variable, lead and terms: the lead is at least 1, the terms go by rising
-    /// variable, none of them is 0 or at the basic variable, and no number is -2^127.
+    /// Whether an equation may be made of this basic variable, lead and terms: the lead is at least 1, the terms go
+    /// by rising variable, none of them is 0 or at the basic variable, and no number is -2^127.
     pub fn is_solved(basic: u32, lead: i128, terms: &[(u32, i128)]) -> bool
         ensures { IsTrue result ↔ IsSolved (equation_of basic lead terms.now) }
     {
@@ -53,8 +53,8 @@ impl Equation {
 
     /// The equation with this basic variable, lead and terms, divided by their greatest common divisor.
     ///
-    /// The lead is at least 1, the terms go by rising variable, none of them is 0 or at the basic variable, and no number is
-    /// -2^127.
+    /// The lead is at least 1, the terms go by rising variable, none of them is 0 or at the basic variable, and no
+    /// number is -2^127.
     pub fn new(
         alloc: Global,
         basic: u32,
@@ -127,11 +127,11 @@ impl Equation {
         })
     }
 
-    /// The equation with the basic variable of the turned one, at which it has a term, replaced by what the turned one says
-    /// of it, in lowest terms.
+    /// The equation with the basic variable of the turned one, at which it has a term, replaced by what the turned
+    /// one says of it, in lowest terms.
     ///
-    /// It is Wide exactly where a product or a sum on the way lies outside -(2^127 - 1) to 2^127 - 1. The two equations are
-    /// solved for different variables, and the turned one has no term at this one's.
+    /// It is Wide exactly where a product or a sum on the way lies outside -(2^127 - 1) to 2^127 - 1. The two
+    /// equations are solved for different variables, and the turned one has no term at this one's.
     pub fn eliminate(&self, alloc: Global, turned: &Equation) -> Result<Equation, ElimFault>
         requires other { self.now.basic ≢ turned.now.basic }
         requires term { HasTerm self.now turned.now.basic }
@@ -150,7 +150,7 @@ impl Equation {
 
     /// Puts the equation that `eliminate` gives in this one's place. A fault leaves this one as it was.
     ///
-    /// The buffer lends its memory and keeps the old equation's, so that many calls need little new memory.
+    /// The buffer lends its memory and has the old equation's terms then, so that many calls need little new memory.
     pub fn eliminate_in_place(
         &mut self,
         turned: &Equation,
@@ -160,6 +160,7 @@ impl Equation {
         requires term { HasTerm self.old turned.now.basic }
         requires apart { coef turned.now.terms self.old.basic ≡ pos 0 }
         ensures replaced { ReplacesIn result self.new (eliminated turned.now self.old) }
+        ensures lent { OnOk result (buffer.new.items ≡ self.old.terms) }
         ensures unchanged { OnErr result (self.new ≡ self.old) }
     {
         let lead = replace(self, turned, buffer)?;

@@ -1,12 +1,14 @@
 -- The choices of the leaving and the entering variable, one equation and one term at a time.
-use Rattle.std.proofs.Common.{◌≡◌, ℕ, ◌+◌, ◌<◌, if◌then◌else◌, Bool, List, [], ◌∷◌, length, get_or, drop, ℤ, pos, Option, Some, None, option_map, IfSome, refl, ap, sym, ◌∙◌}
-use Rattle.std.proofs.lemmas.List.{drop_more}
+use Rattle.std.proofs.Common.{◌≡◌, ℕ, ◌+◌, ◌<◌, ◌≤◌, ◌*ℤ◌, if◌then◌else◌, Bool, true, false, List, [], ◌∷◌, length, get_or, drop, ℤ, pos, Option, Some, None, option_map, IfSome, refl, ap, sym, ◌∙◌, arith}
+use Rattle.std.specs.Prelude.{int_lt}
+use Rattle.std.proofs.lemmas.List.{drop_more, drop_all}
 use Rattle.opt_sums.specs.Sums.{at}
 use Rattle.opt_frac.specs.Equations.{Equation}
 use Rattle.opt_simplex.specs.declared.choice.Leaving.{Leaving as Place}
-use Rattle.opt_simplex.specs.Variables.{Variables}
+use Rattle.opt_simplex.specs.Variables.{Variables, low_of, high_of}
 use Rattle.opt_simplex.specs.Tableau.{equation_at}
-use Rattle.opt_simplex.specs.Choice.{Leaving, out_of_range, lesser, leaving_from, may_enter, better, entering_from}
+use Rattle.opt_simplex.specs.Choice.{Leaving, is_above, out_of_range, lesser, leaving_from, may_enter, better, entering_from}
+use Rattle.opt_simplex.specs.Values.{AreSides, LeavesBy, side_of, side_at}
 use Rattle.opt_simplex.specs.Outcomes.{leaving_at}
 
 -- the leaving variable of this equation, where the place is its position
@@ -45,3 +47,45 @@ pub entering_from-step : (v : Variables) (at_high : List Bool) (below : Bool) (c
     → entering_from v at_high below cost best (drop i ds)
     ≡ entering_from v at_high below cost (if may_enter v at_high below (get_or ds i d) then better cost best (get_or ds i d) else best) (drop (i + 1) ds)
 entering_from-step v at_high below cost best ds i d h = ap (entering_from v at_high below cost best) (drop_more ds i d h)
+
+-- ---- by the sides of the values
+abbrev with_side : ℕ → Equation → Bool → Leaving
+with_side i e below = record { position = i; equation = e; below = below }
+
+out_of_side : (v : Variables) (i : ℕ) (e : Equation) (z : ℤ) → option_map (with_side i e) (side_of v e z) ≡ out_of_range v i e z
+out_of_side v i e z = by_tests (int_lt z (low_of v e.basic *ℤ e.lead)) (is_above z e.lead (high_of v e.basic))
+  where
+    by_tests : (a b : Bool)
+        → option_map (with_side i e) (if a then Some true else if b then Some false else None)
+        ≡ (if a then Some (with_side i e true) else if b then Some (with_side i e false) else None)
+    by_tests true b = refl
+    by_tests false true = refl
+    by_tests false false = refl
+
+found_out : (v : Variables) (i : ℕ) (e : Equation) (z : ℤ) (found : Option Place) → IfSome found (λ l. l.position ≡ i)
+    → option_map (λ l. l.below) found ≡ side_of v e z
+    → option_map (λ l. record { position = l.position; equation = e; below = l.below }) found ≡ out_of_range v i e z
+found_out v i e z None here is = ap (option_map (with_side i e)) is ∙ out_of_side v i e z
+found_out v i e z (Some l) here is =
+    ap (λ p. Some (with_side p e l.below)) here ∙ ap (option_map (with_side i e)) is ∙ out_of_side v i e z
+
+-- one side more
+pub leaves_by-more : (es : List Equation) (sides : List (Option Bool)) (i : ℕ) (best found next : Option Place) → i < length es
+    → ((v : Variables) (zs : List ℤ) → AreSides v es zs sides
+    → leaving_from v i (option_map (leaving_at es) best) (drop i es) (drop i zs) ≡ leaving_from v 0 None es zs)
+    → IfSome found (λ l. l.position ≡ i) → option_map (λ l. l.below) found ≡ side_at sides i
+    → option_map (leaving_at es) next ≡ lesser (option_map (leaving_at es) best) (option_map (leaving_at es) found)
+    → (v : Variables) (zs : List ℤ) → AreSides v es zs sides
+    → leaving_from v (i + 1) (option_map (leaving_at es) next) (drop (i + 1) es) (drop (i + 1) zs) ≡ leaving_from v 0 None es zs
+leaves_by-more es sides i best found next inside now here is step =
+    λ v zs are.
+    leaving_from-more v es zs i (equation_at es i) (at zs i) best found next (leaving_from v 0 None es zs) inside (omega (arith, are.same_length, inside)) refl
+    refl (now v zs are) here (found_out v i (equation_at es i) (at zs i) found here (is ∙ are.each i inside)) step
+
+-- no side is left
+pub leaves_by-end : (es : List Equation) (sides : List (Option Bool)) (i : ℕ) (best : Option Place) → length es ≤ i
+    → ((v : Variables) (zs : List ℤ) → AreSides v es zs sides
+    → leaving_from v i (option_map (leaving_at es) best) (drop i es) (drop i zs) ≡ leaving_from v 0 None es zs)
+    → LeavesBy es sides (option_map (leaving_at es) best)
+leaves_by-end es sides i best past now =
+    λ v zs are. sym (ap (λ ds. leaving_from v i (option_map (leaving_at es) best) ds (drop i zs)) (drop_all i es past)) ∙ now v zs are

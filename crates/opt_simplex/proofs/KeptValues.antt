@@ -1,17 +1,11 @@
 -- A pivot changes the value of no equation that it leaves as it is.
-use Rattle.std.proofs.Common.{◌≡◌, ◌≢◌, ℕ, suc, ◌<◌, if◌then◌else◌, Bool, false, ◌&&◌, List, [], ◌∷◌, length, get_or, ℤ, pos, ◌+ℤ◌, ◌*ℤ◌, None, All, refl, ap, ◌∙◌, arith}
+use Rattle.std.proofs.Common.{◌≡◌, ◌≢◌, ℕ, if◌then◌else◌, Bool, false, ◌&&◌, List, [], ◌∷◌, get_or, ℤ, ◌+ℤ◌, ◌*ℤ◌, None, All, refl, ap, ◌∙◌}
 use Rattle.std.specs.List.{slice_set}
 use Rattle.std.proofs.lemmas.List.{get_or-set_other}
 use Rattle.std.proofs.lemmas.List.Elements.{All-head, All-tail}
-use Rattle.opt_system.specs.Ranges.{Range}
-use Rattle.opt_system.specs.Systems.{System}
 use Rattle.opt_frac.specs.Divisors.{fits}
-use Rattle.opt_frac.proofs.NeatSteps.{IsNeat}
-use Rattle.opt_simplex.specs.Variables.{Variables, variables_of, low_of, high_of, end_of_range, resting}
-use Rattle.opt_simplex.specs.Tableau.{Tableau, equation_at}
+use Rattle.opt_simplex.specs.Variables.{Variables, low_of, high_of, end_of_range, resting}
 use Rattle.opt_simplex.specs.Choice.{sum_from}
-use Rattle.opt_simplex.proofs.Regular.{variables, IsRegular}
-use Rattle.opt_simplex.proofs.Exchange.{apart_of_coef}
 
 -- only the variable whose end is set rests elsewhere
 pub resting_other : (v : Variables) (at_high : List Bool) (b k : ℕ) (flag : Bool) → k ≢ b
@@ -27,18 +21,9 @@ sum_from-same f g sum (e ∷ es) h =
     ∙ ap (λ r. if fits (e.1 *ℤ g e.0) && fits (sum +ℤ (e.1 *ℤ g e.0)) then r else None)
     (sum_from-same f g (sum +ℤ (e.1 *ℤ g e.0)) es (All-tail (λ d. f d.0 ≡ g d.0) e es h))
 
--- whichever basic variable comes to rest, the sums over the equations stay
-pub value_kept : (p : System) (box : Range) (t : Tableau) (position i : ℕ) (flag : Bool) → IsRegular p box t
-    → position < length t.equations → i < length t.equations
-    → sum_from (resting (variables_of p box) (slice_set t.at_high (equation_at t.equations position).basic flag)) (pos 0)
-    (equation_at t.equations i).terms
-    ≡ sum_from (resting (variables_of p box) t.at_high) (pos 0) (equation_at t.equations i).terms
-value_kept p box t position i flag h inside i_inside =
-    let neat : IsNeat (variables p) (equation_at t.equations i) = h.neat (suc i) (omega (arith, i_inside)) in
-    let b : ℕ = (equation_at t.equations position).basic in
-    let apart : All (λ e. e.0 ≢ (equation_at t.equations position).basic) (equation_at t.equations i).terms =
-    apart_of_coef (equation_at t.equations i).terms (equation_at t.equations position).basic neat.rising neat.no_zero
-    (h.are_apart.no_term (suc i) (suc position) (omega (arith, i_inside)) (omega (arith, inside))) in
-    sum_from-same (resting (variables_of p box) (slice_set t.at_high (equation_at t.equations position).basic flag))
-    (resting (variables_of p box) t.at_high) (pos 0) (equation_at t.equations i).terms
-    (λ k d k_inside. resting_other (variables_of p box) t.at_high (equation_at t.equations position).basic (get_or (equation_at t.equations i).terms k d).0 flag (apart k d k_inside))
+-- the sum over terms stays when a variable that has none among them comes to rest
+pub value_kept : (v : Variables) (at_high : List Bool) (b : ℕ) (flag : Bool) (sum : ℤ) (terms : List (ℕ × ℤ)) → All (λ term. term.0 ≢ b) terms
+    → sum_from (resting v (slice_set at_high b flag)) sum terms ≡ sum_from (resting v at_high) sum terms
+value_kept v at_high b flag sum terms apart =
+    sum_from-same (resting v (slice_set at_high b flag)) (resting v at_high) sum terms
+    (λ k d inside. resting_other v at_high b (get_or terms k d).0 flag (apart k d inside))

@@ -21,6 +21,11 @@ pub mod Optima
 pub mod EndIsSound
 pub mod RawLemmas
 pub mod KeptValues
+pub mod PositionSteps
+pub mod PositionSets
+pub mod CountSteps
+pub mod ColumnSteps
+pub mod NoteSteps
 pub mod KeptVariables
 pub mod ValueSteps
 pub mod StartSteps
@@ -30,3 +35,5 @@ pub mod PointSteps
 pub mod SweepSteps
 pub mod TurnSteps
 pub mod RawParts
+pub mod FloorLemmas
+pub mod GuideLemmas

@@ -18,7 +18,7 @@ use Rattle.opt_simplex.specs.Choice.{Leaving}
 use Rattle.opt_simplex.specs.Pivot.{treated, swept, pivoted}
 use Rattle.opt_simplex.specs.Rule.{Look, Ends, Enters, stopped, looked, after, followed, turns, end_of}
 use Rattle.opt_simplex.specs.Soundness.{IsSound}
-use Rattle.opt_simplex.specs.Shape.{IsAmong, IsShaped, IsOpenTo, MayPivot, MayTurn}
+use Rattle.opt_simplex.specs.Shape.{IsAmong, IsShaped, IsOpenTo, MayPivot, MayTurn, MayGoOn}
 use Rattle.opt_simplex.specs.Outcomes.{turn_of, pivot_of, Turns}
 use Rattle.opt_simplex.proofs.Regular.{all_of, variables, IsRegular}
 use Rattle.opt_simplex.proofs.Exchange.{apart_of_coef}
@@ -26,6 +26,10 @@ use Rattle.opt_simplex.proofs.Starts.{start-regular, length-row_equations}
 use Rattle.opt_simplex.proofs.EndIsSound.{IsAsked, IsTrueLook, looked_true, limited_fit, end_is_sound}
 
 -- ---- a pivot from its parts
+pub turned-basic : (col : ℕ) (e : Equation) → (turned col e).basic ≡ col
+unfolding turned
+turned-basic col e = refl
+
 module _ (t : Tableau) (l : Leaving) (col : ℕ) where
   pub pivoted-made : (es : List Equation) (n m : ℕ) (c : Equation)
       → swept (turned col l.equation) l.position 0 (stored t) t.equations ≡ Ok (record { equations = es; count = n })
@@ -154,6 +158,14 @@ module _ (p : System) (box : Range) where
             (apart_of_coef (equation_at t.equations position).terms (equation_at (all_of t) j).basic neat.rising neat.no_zero none));
       }
 
+  -- no equation has a term at a basic variable
+  unused_in : (t : Tableau) (position i : ℕ) → IsRegular p box t → position < length t.equations → i < length t.equations
+      → All (λ term. term.0 ≢ (equation_at t.equations position).basic) (equation_at t.equations i).terms
+  unused_in t position i regular inside i_inside =
+      let neat : IsNeat (variables p) (equation_at t.equations i) = regular.neat (suc i) (omega (arith, i_inside)) in
+      apart_of_coef (equation_at t.equations i).terms (equation_at t.equations position).basic neat.rising neat.no_zero
+      (regular.are_apart.no_term (suc i) (suc position) (omega (arith, i_inside)) (omega (arith, inside)))
+
   may_pivot_of : (t : Tableau) (l : Leaving) (col : ℕ) → IsRegular p box t → IsAsked p box t l col → MayPivot t l.position col
   may_pivot_of t l col regular asked =
       let some : coef (equation_at t.equations l.position).terms col ≢ pos 0 =
@@ -163,6 +175,7 @@ module _ (p : System) (box : Range) where
         term = some;
         others = λ i h apart. open_to t l.position col (suc i) regular asked.inside some (omega (arith, h)) (λ e. apart (omega (arith, e)));
         cost = open_to t l.position col 0 regular asked.inside some (omega arith) (λ e. absurd (omega (arith, e)));
+        unused = λ i h. unused_in t l.position i regular asked.inside h;
       }
 
   -- a regular tableau with an equation for each row
@@ -204,6 +217,12 @@ module _ (p : System) (box : Range) where
         of_look (Ends end) tells k = absurd (ok_err next end (sym k))
         of_look (Enters l col) tells k = of_pivot (pivoted t l col) k tells.next_regular
 
+    pub on_way-goes_on : (t : Tableau) (done : ℕ) → IsOnWay t → MayGoOn (variables_of p box) done t
+    on_way-goes_on t done h l col asks =
+        λ next made same.
+        on_way-shaped next limits inside
+        (on_way-next t next done h (ap (turn_of (variables_of p box) done t) asks ∙ ap (pivot_of (variables_of p box) done t) made) same)
+
 -- ---- the whole way
 -- after so many pivots, the turns from this tableau reach the end
 pub record IsRunning (p : System) (box : Range) (pivots : ℕ) (v : Variables) (done : ℕ) (t : Tableau) : Type 0 where
@@ -240,6 +259,10 @@ module _ (p : System) (box : Range) (limits : IsLimited p) (box_ordered : IsOrde
   pub running-may : (v : Variables) (done : ℕ) (t : Tableau) → IsRunning p box pivots v done t → MayTurn v done t
   running-may v done t h =
       subst (λ w. MayTurn w done t) (sym h.variables_are) (on_way-may_turn p box limits box_ordered inside t done h.on_way)
+
+  pub running-goes_on : (v : Variables) (done : ℕ) (t : Tableau) → IsRunning p box pivots v done t → MayGoOn v done t
+  running-goes_on v done t h =
+      subst (λ w. MayGoOn w done t) (sym h.variables_are) (on_way-goes_on p box limits box_ordered inside t done h.on_way)
 
   pub running-next : (v : Variables) (done : ℕ) (t next : Tableau) → IsRunning p box pivots v done t → done < pivots
       → turn_of v done t (looked v done t) ≡ Ok next → length next.equations ≡ length t.equations → IsRunning p box pivots v (done + 1) next

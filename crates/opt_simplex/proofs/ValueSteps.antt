@@ -1,10 +1,12 @@
 -- Values computed term by term, and equation by equation.
-use Rattle.std.proofs.Common.{◌≡◌, ℕ, ◌+◌, ◌<◌, ◌≤◌, if◌then◌else◌, Bool, true, false, ◌&&◌, List, [], ◌∷◌, ◌++◌, length, get_or, drop, ℤ, pos, ◌+ℤ◌, ◌*ℤ◌, Option, Some, None, option_map, All, refl, ap, sym, subst, ◌∙◌, arith}
+use Rattle.std.proofs.Common.{◌≡◌, ℕ, zero, suc, ◌+◌, ◌<◌, ◌≤◌, if◌then◌else◌, Bool, true, false, ◌&&◌, List, [], ◌∷◌, ◌++◌, length, get_or, drop, ℤ, pos, ◌+ℤ◌, ◌*ℤ◌, Option, Some, None, option_map, All, refl, ap, sym, subst, ◌∙◌, arith}
 use Rattle.std.specs.Prelude.{option_and_then}
-use Rattle.std.proofs.lemmas.List.{drop_more, append_assoc, length-drop}
+use Rattle.std.proofs.lemmas.List.{drop_more, length-drop}
 use Rattle.std.proofs.lemmas.List.Elements.{All-nil, All-cons}
 use Rattle.opt_frac.specs.Divisors.{fits, Fits}
 use Rattle.opt_frac.specs.Equations.{Equation}
+use Rattle.opt_sums.specs.Sums.{at}
+use Rattle.opt_simplex.specs.Tableau.{equation_at}
 use Rattle.opt_simplex.specs.Choice.{sum_from, values}
 use Rattle.opt_frac.proofs.FitLemmas.{Fits-test, and_right}
 use Rattle.opt_simplex.specs.Outcomes.{with_product}
@@ -59,6 +61,10 @@ sum_from-fits rest sum (e ∷ es) z fit h =
 zero_fits : Fits (pos 0)
 zero_fits = omega arith
 
+-- a value that is found fits
+pub value-fits : (rest : ℕ → ℤ) (es : List (ℕ × ℤ)) (z : ℤ) → sum_from rest (pos 0) es ≡ Some z → Fits z
+value-fits rest es z h = sum_from-fits rest (pos 0) es z zero_fits h
+
 -- values that are found fit
 pub values-fit : (rest : ℕ → ℤ) (es : List Equation) (zs : List ℤ) → values rest es ≡ Some zs → All Fits zs
 values-fit rest [] zs h = let none : [] ≡ zs = cc in subst (All Fits) none (All-nil Fits)
@@ -74,29 +80,22 @@ values-fit rest (e ∷ es) zs h =
         subst (All Fits) same (All-cons Fits z more (sum_from-fits rest (pos 0) e.terms z zero_fits p) (go more refl))
 
 -- ---- values
--- one equation more
-pub values-step : (rest : ℕ → ℤ) (es : List Equation) (i : ℕ) (d : Equation) → i < length es
-    → values rest (drop i es)
-    ≡ option_and_then (λ value. option_map (λ more. value ∷ more) (values rest (drop (i + 1) es))) (sum_from rest (pos 0) (get_or es i d).terms)
-values-step rest es i d h = ap (values rest) (drop_more es i d h)
+-- all values fit
+pub values-all : (rest : ℕ → ℤ) (es : List Equation) (zs : List ℤ) → length zs ≡ length es
+    → ((i : ℕ) → i < length es → sum_from rest (pos 0) (equation_at es i).terms ≡ Some (at zs i)) → values rest es ≡ Some zs
+values-all rest [] [] same each = refl
+values-all rest [] (z ∷ zs) same each = absurd (omega (arith, same))
+values-all rest (e ∷ es) [] same each = absurd (omega (arith, same))
+values-all rest (e ∷ es) (z ∷ zs) same each =
+    rw (each zero (omega arith), values-all rest es zs (omega (arith, same)) (λ i h. each (suc i) (omega (arith, h)))) refl
 
--- an equation whose value does not fit
-pub values-wide : (rest : ℕ → ℤ) (es : List Equation) (i : ℕ) (d : Equation) (zs : List ℤ) (start : Option (List ℤ)) → i < length es
-    → option_map (λ more. zs ++ more) (values rest (drop i es)) ≡ start → None ≡ sum_from rest (pos 0) (get_or es i d).terms → None ≡ start
-values-wide rest es i d zs start h now wide =
-    ap (λ r. option_map (λ more. zs ++ more) (option_and_then (λ value. option_map (λ more. value ∷ more) (values rest (drop (i + 1) es))) r)) wide
-    ∙ ap (option_map (λ more. zs ++ more)) (sym (values-step rest es i d h)) ∙ now
-
--- an equation whose value fits
-pub values-more : (rest : ℕ → ℤ) (es : List Equation) (i : ℕ) (d : Equation) (zs : List ℤ) (z : ℤ) (start : Option (List ℤ)) → i < length es
-    → option_map (λ more. zs ++ more) (values rest (drop i es)) ≡ start → Some z ≡ sum_from rest (pos 0) (get_or es i d).terms
-    → option_map (λ more. (zs ++ z ∷ []) ++ more) (values rest (drop (i + 1) es)) ≡ start
-values-more rest es i d zs z start h now fitting =
-    joined (values rest (drop (i + 1) es))
-    ∙ ap (λ r. option_map (λ more. zs ++ more) (option_and_then (λ value. option_map (λ more. value ∷ more) (values rest (drop (i + 1) es))) r)) fitting
-    ∙ ap (option_map (λ more. zs ++ more)) (sym (values-step rest es i d h)) ∙ now
+-- one value does not fit
+pub values-wide : (rest : ℕ → ℤ) (es : List Equation) (i : ℕ) → i < length es → sum_from rest (pos 0) (equation_at es i).terms ≡ None
+    → values rest es ≡ None
+values-wide rest [] i inside wide = absurd (omega (arith, inside))
+values-wide rest (e ∷ es) zero inside wide = rw wide refl
+values-wide rest (e ∷ es) (suc i) inside wide = rw (values-wide rest es i (omega (arith, inside)) wide) (by_first (sum_from rest (pos 0) e.terms))
   where
-    joined : (r : Option (List ℤ))
-        → option_map (λ more. (zs ++ z ∷ []) ++ more) r ≡ option_map (λ more. zs ++ more) (option_map (λ more. z ∷ more) r)
-    joined None = refl
-    joined (Some more) = ap Some (append_assoc zs (z ∷ []) more)
+    by_first : (a : Option ℤ) → option_and_then (λ value. option_map (λ more. value ∷ more) None) a ≡ None
+    by_first None = refl
+    by_first (Some z) = refl

@@ -2,8 +2,11 @@ pub mod Kept
 pub mod Variables
 pub mod Tableau
 pub mod Choice
+pub mod Columns
+pub mod Values
 pub mod Pivot
 pub mod Rule
 pub mod Soundness
 pub mod Shape
 pub mod Outcomes
+pub mod Guide

@@ -1,5 +1,5 @@
 -- What the simplex keeps of its variables and equations, so that each look-up is within its list.
-use Rattle.std.specs.Prelude.{◌≡◌, ◌≢◌, ℕ, ◌+◌, ◌<◌, ◌≤◌, All, length, IfSome, ℤ, pos, ◌≤ℤ◌}
+use Rattle.std.specs.Prelude.{◌≡◌, ◌≢◌, ℕ, ◌+◌, ◌<◌, ◌≤◌, All, length, IfSome, ℤ, pos, ◌≤ℤ◌, Ok}
 use Rattle.opt_base.specs.declared.limits.TheConstants.{QUANTITY_LIMIT, ROW_LIMIT}
 use Rattle.opt_sums.specs.Entries.{AllBelow, coef}
 use Rattle.opt_frac.specs.Divisors.{Fits}
@@ -8,6 +8,7 @@ use Rattle.opt_frac.specs.Elimination.{turned}
 use Rattle.opt_simplex.specs.Variables.{Variables}
 use Rattle.opt_simplex.specs.Tableau.{Tableau, equation_at}
 use Rattle.opt_simplex.specs.Choice.{Leaving}
+use Rattle.opt_simplex.specs.Pivot.{pivoted}
 use Rattle.opt_simplex.specs.Rule.{Enters, looked}
 
 -- each variable has a low and a place for a high, and these fit; there are not too many quantities, and of rows' sums
@@ -39,12 +40,19 @@ pub record IsOpenTo (by e : Equation) : Type 0 where
   pub other : e.basic ≢ by.basic
   pub apart : coef by.terms e.basic ≡ pos 0
 
--- the equation at the position has a term at the variable, and its turned one can take that variable's place in the others
+-- the equation at the position has a term at the variable, and its turned one can take that variable's place in the others;
+-- no equation has a term at the basic variable of that one
 pub record MayPivot (t : Tableau) (position col : ℕ) : Type 0 where
   pub inside : position < length t.equations
   pub term : HasTerm (equation_at t.equations position) col
   pub others : (i : ℕ) → i < length t.equations → i ≢ position → IsOpenTo (turned col (equation_at t.equations position)) (equation_at t.equations i)
   pub cost : IsOpenTo (turned col (equation_at t.equations position)) t.cost
+  pub unused : (i : ℕ) → i < length t.equations
+      → All (λ term. term.0 ≢ (equation_at t.equations position).basic) (equation_at t.equations i).terms
+
+-- the pivot, where it is made, leaves the tableau shaped
+abbrev pub StaysShaped : ℕ → Tableau → Leaving → ℕ → Type 0
+StaysShaped n t l col = (next : Tableau) → pivoted t l col ≡ Ok next → length next.equations ≡ length t.equations → IsShaped n next
 
 -- the term may be chosen: its coefficient is not 0 and fits
 pub record IsChoice (term : ℕ × ℤ) : Type 0 where
@@ -54,3 +62,7 @@ pub record IsChoice (term : ℕ × ℤ) : Type 0 where
 -- where the tableau asks for a pivot, it may be made
 abbrev pub MayTurn : Variables → ℕ → Tableau → Type 0
 MayTurn v done t = (l : Leaving) (col : ℕ) → looked v done t ≡ Enters l col → MayPivot t l.position col
+
+-- where the tableau asks for a pivot, the next one is shaped
+abbrev pub MayGoOn : Variables → ℕ → Tableau → Type 0
+MayGoOn v done t = (l : Leaving) (col : ℕ) → looked v done t ≡ Enters l col → StaysShaped (length v.low) t l col

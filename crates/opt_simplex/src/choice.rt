@@ -1,16 +1,17 @@
-ghost use Rattle.std.specs.Prelude.{◌≡◌, ◌<◌, ◌≢◌, All, None, int_lt, length, option_map, pos, ◌*ℤ◌, ◌≤ℤ◌, IfSome, unsigned_abs};
-ghost use Rattle.opt_sums.specs.Sums.{at};
+ghost use Rattle.std.specs.Prelude.{◌≡◌, ◌<◌, None, int_lt, length, option_map, pos, ◌*ℤ◌, ◌≤ℤ◌, IfSome, unsigned_abs};
 ghost use Rattle.opt_sums.specs.Entries.{AllBelow, coef};
 ghost use Rattle.opt_frac.specs.Divisors.{Fits};
-ghost use Rattle.opt_simplex.specs.Choice.{better as better_of, can_help as can_help_of, entering_from, has_less_ratio as has_less_ratio_of, is_above as is_above_of, leaving_from, lesser as lesser_of, may_enter as may_enter_of, out_of_range as out_of_range_of};
+ghost use Rattle.opt_simplex.specs.Choice.{better as better_of, can_help as can_help_of, entering_from, has_less_ratio as has_less_ratio_of, is_above as is_above_of, lesser as lesser_of, may_enter as may_enter_of};
 ghost use Rattle.opt_simplex.specs.Outcomes.{leaving_at};
-ghost use Rattle.opt_simplex.specs.Shape.{IsAmong, IsChoice};
+ghost use Rattle.opt_simplex.specs.Shape.{IsChoice};
+ghost use Rattle.opt_simplex.specs.Values.{LeavesBy, side_of};
 
 use crate::variables::Variables;
 use opt_frac::{Equation, compare};
 use std::cmp::Ordering;
 
-/// A basic variable whose value is out of its range: the position of its equation, and whether the value is below its low.
+/// A basic variable whose value is out of its range: the position of its equation, and whether the value is below its
+/// low.
 #[derive(Clone, Copy, Debug)]
 pub(crate) struct Leaving {
     pub position: usize,
@@ -36,32 +37,30 @@ fn is_above(value: i128, lead: i128, high: Option<i128>) -> bool
     }
 }
 
-/// The equation's variable as one that may leave, where its value, over the lead, is out of its range.
-fn out_of_range(
-    variables: &Variables,
-    position: usize,
-    equation: &Equation,
-    value: i128,
-) -> Option<Leaving>
+/// Whether the value of the equation's variable, over the lead, is below its low, where it is out of its range.
+pub(crate) fn side(variables: &Variables, equation: &Equation, value: i128) -> Option<bool>
     requires { equation.now.basic < length variables.now.low }
-    ensures position { IfSome result (λ l. l.position ≡ position) }
-    ensures value { option_map (λ l. record { position = l.position; equation = equation.now; below = l.below }) result
-        ≡ out_of_range_of variables.now position equation.now value }
+    ensures { result ≡ side_of variables.now equation.now value }
 {
     let basic = equation.basic();
     if is_below(value, equation.lead(), variables.low(basic)) {
-        return Some(Leaving {
-            position,
-            below: true,
-        });
+        return Some(true);
     }
     if is_above(value, equation.lead(), variables.high(basic)) {
-        return Some(Leaving {
-            position,
-            below: false,
-        });
+        return Some(false);
     }
     None
+}
+
+/// The variable of the equation at the position as one that may leave, where it is on a side of its range.
+fn leaving_on(position: usize, side: Option<bool>) -> Option<Leaving>
+    ensures position { IfSome result (λ l. l.position ≡ position) }
+    ensures below { option_map (λ l. l.below) result ≡ side }
+{
+    match side {
+        Some(below) => Some(Leaving { position, below }),
+        None => None,
+    }
 }
 
 /// The one of the lesser variable.
@@ -87,20 +86,15 @@ fn lesser(equations: &[Equation], best: Option<Leaving>, found: Option<Leaving>)
     }
 }
 
-/// The least variable of the basis whose value is out of its range.
-pub(crate) fn choose_leaving(
-    variables: &Variables,
-    equations: &[Equation],
-    values: &[i128],
-) -> Option<Leaving>
-    requires named { All (IsAmong (length variables.now.low)) equations.now }
-    requires each { length values.now ≡ length equations.now }
+/// The least variable of the basis whose value is out of its range, where these are the sides of the values.
+pub(crate) fn choose_leaving(equations: &[Equation], sides: &[Option<bool>]) -> Option<Leaving>
+    requires { length sides.now ≡ length equations.now }
     ensures within { IfSome result (λ l. l.position < length equations.now) }
-    ensures least { option_map (leaving_at equations.now) result ≡ leaving_from variables.now 0 None equations.now values.now }
+    ensures least { LeavesBy equations.now sides.now (option_map (leaving_at equations.now) result) }
 {
     let mut best = None;
     for i in 0..equations.len() {
-        let found = out_of_range(variables, i, &equations[i], values[i]);
+        let found = leaving_on(i, sides[i]);
         best = lesser(equations, best, found);
     }
     best

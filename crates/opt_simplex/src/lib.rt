@@ -2,9 +2,13 @@
 //! relaxation.
 #![tactic(auto)]
 
+mod box_end;
 mod choice;
+mod columns;
 mod end;
 mod fracs;
+mod fractional;
+mod guide;
 mod limits;
 mod multipliers;
 mod pivot;
@@ -18,10 +22,10 @@ mod variables;
 
 pub use end::{LpEnd, Why};
 pub use fracs::Fracs;
+pub use guide::SimplexGuide;
+pub use limits::PIVOT_LIMIT;
 pub use raw::Raw;
 pub use simplex::solve;
 
-#[cfg(test)]
-mod cases;
 #[cfg(test)]
 mod tests;

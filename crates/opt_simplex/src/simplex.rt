@@ -1,21 +1,25 @@
-ghost use Rattle.std.specs.Prelude.{◌≡◌, ◌<◌, ◌≤◌, All, None, length, IfOk};
+ghost use Rattle.std.specs.Prelude.{◌≡◌, ◌<◌, ◌≤◌, false, All, None, length, IfOk, IfNone};
 ghost use Rattle.opt_system.specs.Ranges.{LiesIn};
 ghost use Rattle.opt_frac.specs.Divisors.{Fits};
-ghost use Rattle.opt_simplex.specs.Choice.{entering_from, leaving_from};
+ghost use Rattle.opt_simplex.specs.Choice.{entering_from};
 ghost use Rattle.opt_simplex.specs.Outcomes.{Turns, leaving_at, look_at, pivot_of, turn_of};
 ghost use Rattle.opt_simplex.specs.Pivot.{pivoted};
 ghost use Rattle.opt_simplex.specs.Rule.{Ends, end_of, entering as entering_of, leaving as leaving_of, looked, stopped as stopped_of, turns};
-ghost use Rattle.opt_simplex.specs.Shape.{IsShaped, MayPivot, MayTurn};
+ghost use Rattle.opt_simplex.specs.Shape.{IsShaped, MayGoOn, MayPivot, MayTurn, StaysShaped};
 ghost use Rattle.opt_simplex.specs.Soundness.{IsSound};
+ghost use Rattle.opt_simplex.specs.Tableau.{stored as stored_of};
+ghost use Rattle.opt_simplex.specs.Values.{AreNoted};
+ghost use Rattle.opt_simplex.specs.Columns.{AreColumns};
 
 use crate::choice::{Leaving, choose_entering, choose_leaving};
+use crate::columns::Columns;
 use crate::end::{LpEnd, Why};
-use crate::limits::VARIABLE_LIMIT;
+use crate::limits::{COUNT_LIMIT, VARIABLE_LIMIT};
 use crate::multipliers::{cost_multipliers, empty_multipliers};
 use crate::pivot::PivotFault;
 use crate::point::point;
 use crate::tableau::Tableau;
-use crate::values::values;
+use crate::values::Values;
 use crate::variables::Variables;
 use opt_base::OutOfMemory;
 use opt_system::{Range, System};
@@ -28,6 +32,35 @@ pub(crate) enum Look {
     Ends(LpEnd),
     /// The variable of this column enters the basis for the leaving one.
     Enters(Leaving, u32),
+}
+
+/// What is kept from turn to turn beside the tableau.
+#[derive(Debug, Drop)]
+pub(crate) struct Work {
+    pub values: Values,
+    pub columns: Columns,
+    pub stored: usize,
+    pub buffer: Vec<(u32, i128)>,
+}
+
+impl Work {
+    /// What is kept beside this tableau.
+    fn new(alloc: Global, variables: &Variables, tableau: &Tableau) -> Result<Work, OutOfMemory>
+        requires shaped { IsShaped (length variables.now.low) tableau.now }
+        requires few { length variables.now.low ≤ VARIABLE_LIMIT }
+        ensures noted { IfOk result (λ work. AreNoted variables.now tableau.now work.values) }
+        ensures stored { IfOk result (λ work. work.stored ≡ stored_of tableau.now) }
+        ensures few { IfOk result (λ work. work.stored ≤ COUNT_LIMIT) }
+        ensures columns { IfOk result
+            (λ work. AreColumns (length variables.now.low) tableau.now.equations work.columns) }
+    {
+        Ok(Work {
+            values: Values::new(alloc, variables, tableau)?,
+            columns: Columns::new(alloc, tableau.at_high().len(), tableau.equations())?,
+            stored: tableau.stored(),
+            buffer: Vec::new(alloc),
+        })
+    }
 }
 
 /// The simplex stops here, with the multipliers of the cost equation.
@@ -103,18 +136,17 @@ fn choose(
     alloc: Global,
     variables: &Variables,
     tableau: &Tableau,
-    values: &[i128],
+    values: &Values,
     done: u32,
 ) -> Result<Look, OutOfMemory>
     requires shaped { IsShaped (length variables.now.low) tableau.now }
-    requires each { length values.now ≡ length tableau.now.equations }
-    requires fit { All Fits values.now }
-    ensures { let chosen = leaving_from variables.now 0 None tableau.now.equations values.now in
-        IfOk result (λ look. look_at tableau.now.equations look ≡ leaving_of variables.now done tableau.now values.now chosen) }
+    requires noted { AreNoted variables.now tableau.now values.now }
+    requires fit { values.now.wide ≡ false }
+    ensures { IfOk result (λ look. look_at tableau.now.equations look ≡ looked variables.now done tableau.now) }
 {
-    match choose_leaving(variables, tableau.equations(), values) {
+    match choose_leaving(tableau.equations(), values.sides()) {
         Some(leaving) => enter(alloc, variables, tableau, leaving, done),
-        None => Ok(Look::Ends(optimal(alloc, variables, tableau, values, done)?)),
+        None => Ok(Look::Ends(optimal(alloc, variables, tableau, values.numbers(), done)?)),
     }
 }
 
@@ -123,36 +155,60 @@ fn ask(
     alloc: Global,
     variables: &Variables,
     tableau: &Tableau,
+    values: &Values,
     done: u32,
 ) -> Result<Look, OutOfMemory>
-    requires { IsShaped (length variables.now.low) tableau.now }
+    requires shaped { IsShaped (length variables.now.low) tableau.now }
+    requires noted { AreNoted variables.now tableau.now values.now }
     ensures { IfOk result (λ look. look_at tableau.now.equations look ≡ looked variables.now done tableau.now) }
 {
-    match values(alloc, variables, tableau.at_high(), tableau.equations())? {
-        Some(values) => choose(alloc, variables, tableau, &values, done),
-        None => Ok(Look::Ends(stop(alloc, variables, tableau, Why::Wide, done)?)),
+    if values.is_wide() {
+        return Ok(Look::Ends(stop(alloc, variables, tableau, Why::Wide, done)?));
     }
+    choose(alloc, variables, tableau, values, done)
 }
 
-/// Makes the pivot, after so many; or gives the end where it stops there.
+/// Makes the pivot, after so many, and notes the values that it changes; or gives the end where it stops there.
 fn pivot(
     alloc: Global,
     variables: &Variables,
     tableau: &mut Tableau,
+    work: &mut Work,
     leaving: Leaving,
     col: u32,
     done: u32,
-    buffer: &mut Vec<(u32, i128)>,
 ) -> Result<Option<LpEnd>, OutOfMemory>
     requires shaped { IsShaped (length variables.now.low) tableau.old }
-    requires few { length variables.now.low ≤ VARIABLE_LIMIT }
+    requires stored { work.old.stored ≡ stored_of tableau.old }
+    requires few { work.old.stored ≤ COUNT_LIMIT }
     requires may { MayPivot tableau.old leaving.position col }
+    requires stays { StaysShaped (length variables.now.low) tableau.old (leaving_at tableau.old.equations leaving) col }
+    requires noted { AreNoted variables.now tableau.old work.old.values }
+    requires fit { work.old.values.wide ≡ false }
+    requires columns { AreColumns (length variables.now.low) tableau.old.equations work.old.columns }
     ensures pivoted { IfOk result (λ end. Turns end tableau.new
-        (pivot_of variables.now done tableau.old (pivoted tableau.old (leaving_at tableau.old.equations leaving) col))) }
+        (pivot_of variables.now done tableau.old
+        (pivoted tableau.old (leaving_at tableau.old.equations leaving) col))) }
     ensures same_length { length tableau.new.equations ≡ length tableau.old.equations }
+    ensures noted { IfOk result (λ end. IfNone end (AreNoted variables.now tableau.new work.new.values)) }
+    ensures stored { IfOk result (λ end. IfNone end (work.new.stored ≡ stored_of tableau.new)) }
+    ensures few { IfOk result (λ end. IfNone end (work.new.stored ≤ COUNT_LIMIT)) }
+    ensures columns { IfOk result
+        (λ end. IfNone end (AreColumns (length variables.now.low) tableau.new.equations work.new.columns)) }
 {
-    match tableau.pivot(alloc, leaving, col, buffer) {
-        Ok(()) => Ok(None),
+    match tableau.pivot(
+        alloc,
+        leaving,
+        col,
+        work.stored,
+        &mut work.columns,
+        &mut work.buffer,
+    ) {
+        Ok(change) => {
+            work.stored = change.stored;
+            work.values.refresh(variables, tableau, &change.positions);
+            Ok(None)
+        }
         Err(PivotFault::Stops(why)) => Ok(Some(stop(alloc, variables, tableau, why, done)?)),
         Err(PivotFault::OutOfMemory) => Err(OutOfMemory),
     }
@@ -163,19 +219,28 @@ fn turn(
     alloc: Global,
     variables: &Variables,
     tableau: &mut Tableau,
+    work: &mut Work,
     done: u32,
-    buffer: &mut Vec<(u32, i128)>,
 ) -> Result<Option<LpEnd>, OutOfMemory>
     requires shaped { IsShaped (length variables.now.low) tableau.old }
-    requires few { length variables.now.low ≤ VARIABLE_LIMIT }
+    requires stored { work.old.stored ≡ stored_of tableau.old }
+    requires few { work.old.stored ≤ COUNT_LIMIT }
     requires may { MayTurn variables.now done tableau.old }
+    requires goes_on { MayGoOn variables.now done tableau.old }
+    requires noted { AreNoted variables.now tableau.old work.old.values }
+    requires columns { AreColumns (length variables.now.low) tableau.old.equations work.old.columns }
     ensures turned { IfOk result (λ end. Turns end tableau.new
         (turn_of variables.now done tableau.old (looked variables.now done tableau.old))) }
     ensures same_length { length tableau.new.equations ≡ length tableau.old.equations }
+    ensures noted { IfOk result (λ end. IfNone end (AreNoted variables.now tableau.new work.new.values)) }
+    ensures stored { IfOk result (λ end. IfNone end (work.new.stored ≡ stored_of tableau.new)) }
+    ensures few { IfOk result (λ end. IfNone end (work.new.stored ≤ COUNT_LIMIT)) }
+    ensures columns { IfOk result
+        (λ end. IfNone end (AreColumns (length variables.now.low) tableau.new.equations work.new.columns)) }
 {
-    match ask(alloc, variables, tableau, done)? {
+    match ask(alloc, variables, tableau, &work.values, done)? {
         Look::Ends(end) => Ok(Some(end)),
-        Look::Enters(leaving, col) => pivot(alloc, variables, tableau, leaving, col, done, buffer),
+        Look::Enters(leaving, col) => pivot(alloc, variables, tableau, work, leaving, col, done),
     }
 }
 
@@ -184,12 +249,14 @@ fn last(
     alloc: Global,
     variables: &Variables,
     tableau: &Tableau,
+    values: &Values,
     done: u32,
 ) -> Result<LpEnd, OutOfMemory>
-    requires { IsShaped (length variables.now.low) tableau.now }
+    requires shaped { IsShaped (length variables.now.low) tableau.now }
+    requires noted { AreNoted variables.now tableau.now values.now }
     ensures { IfOk result (λ end. end ≡ turns variables.now 0 done tableau.now) }
 {
-    match ask(alloc, variables, tableau, done)? {
+    match ask(alloc, variables, tableau, values, done)? {
         Look::Ends(end) => Ok(end),
         Look::Enters(_, _) => stop(alloc, variables, tableau, Why::Pivots, done),
     }
@@ -212,12 +279,12 @@ pub fn solve(
 {
     let variables = Variables::new(alloc, system, range)?;
     let mut tableau = Tableau::start(alloc, system)?;
-    let mut buffer = Vec::new(alloc);
+    let mut work = Work::new(alloc, &variables, &tableau)?;
     for done in 0..pivots {
-        match turn(alloc, &variables, &mut tableau, done, &mut buffer)? {
+        match turn(alloc, &variables, &mut tableau, &mut work, done)? {
             Some(end) => return Ok(end),
             None => {}
         }
     }
-    last(alloc, &variables, &tableau, pivots)
+    last(alloc, &variables, &tableau, &work.values, pivots)
 }

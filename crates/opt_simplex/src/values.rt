@@ -1,13 +1,140 @@
-ghost use Rattle.std.specs.Prelude.{◌≡◌, ◌<◌, All, length, option_and_then, option_map, pos, IfOk};
+ghost use Rattle.std.specs.Prelude.{◌≡◌, ◌<◌, ◌∷◌, ℕ, List, false, All, Contains, None, length, option_and_then, pos, replicate, IfOk};
 ghost use Rattle.opt_sums.specs.Entries.{AllBelow};
 ghost use Rattle.opt_simplex.specs.Variables.{resting};
 ghost use Rattle.opt_simplex.specs.Outcomes.{with_product};
-ghost use Rattle.opt_simplex.specs.Shape.{IsAmong};
-ghost use Rattle.opt_simplex.specs.Choice.{sum_from, values as values_of};
+ghost use Rattle.opt_simplex.specs.Shape.{IsShaped};
+ghost use Rattle.opt_simplex.specs.Choice.{sum_from};
+ghost use Rattle.opt_simplex.specs.Values.{AreNoted, AreNotedBut};
 
+use crate::choice::side;
+use crate::tableau::Tableau;
 use crate::variables::Variables;
-use opt_frac::{Equation, product, sum};
+use opt_frac::{product, sum};
 use std::alloc::{AllocError, Global};
+use std::marker::Model;
+
+/// Lead times the value of each equation's variable, by position, and for those that are out of their range whether
+/// they are below their low; or the mark that a value does not fit.
+#[derive(Debug, Drop)]
+pub(crate) struct Values {
+    wide: bool,
+    numbers: Vec<i128>,
+    sides: Vec<Option<bool>>,
+}
+
+impl Model for Values {
+    ghost use Rattle.opt_simplex.specs.Values.{Values};
+
+    ghost Value = { Values };
+
+    ghost view = { λ v. record { wide = v.wide; numbers = v.numbers.items; sides = v.sides.items } };
+}
+
+impl Values {
+    /// The values of the tableau.
+    pub(crate) fn new(
+        alloc: Global,
+        variables: &Variables,
+        tableau: &Tableau,
+    ) -> Result<Values, AllocError>
+        requires { IsShaped (length variables.now.low) tableau.now }
+        ensures { IfOk result (AreNoted variables.now tableau.now) }
+    {
+        let count = tableau.equations().len();
+        let positions = all_positions(alloc, count)?;
+        let mut values = Values::unknown(alloc, count)?;
+        values.refresh(variables, tableau, &positions);
+        Ok(values)
+    }
+
+    /// So many values, none of them known yet.
+    fn unknown(alloc: Global, count: usize) -> Result<Values, AllocError>
+        ensures wide { IfOk result (λ values. values.wide ≡ false) }
+        ensures numbers { IfOk result (λ values. length values.numbers ≡ count) }
+        ensures sides { IfOk result (λ values. length values.sides ≡ count) }
+    {
+        Ok(Values {
+            wide: false,
+            numbers: vec![in alloc; 0; count]?,
+            sides: no_sides(alloc, count)?,
+        })
+    }
+
+    /// Whether a value does not fit.
+    pub(crate) fn is_wide(&self) -> bool
+        ensures { result ≡ self.now.wide }
+    {
+        self.wide
+    }
+
+    /// Lead times the value of each equation's variable, by position.
+    pub(crate) fn numbers(&self) -> &[i128]
+        ensures { result.now ≡ self.now.numbers }
+    {
+        &self.numbers
+    }
+
+    /// For each variable that is out of its range, by the position of its equation, whether it is below its low.
+    pub(crate) fn sides(&self) -> &[Option<bool>]
+        ensures { result.now ≡ self.now.sides }
+    {
+        &self.sides
+    }
+
+    /// Computes the value of the equation at this position anew.
+    fn note(&mut self, variables: &Variables, tableau: &Tableau, i: usize)
+        requires shaped { IsShaped (length variables.now.low) tableau.now }
+        requires numbers_each { length self.old.numbers ≡ length tableau.now.equations }
+        requires sides_each { length self.old.sides ≡ length tableau.now.equations }
+        requires inside { i < length tableau.now.equations }
+        ensures { (others : List ℕ) → AreNotedBut variables.now tableau.now self.old (i ∷ others)
+            → AreNotedBut variables.now tableau.now self.new others }
+    {
+        let equation = &tableau.equations()[i];
+        match value(variables, tableau.at_high(), equation.terms()) {
+            Some(number) => {
+                self.numbers[i] = number;
+                self.sides[i] = side(variables, equation, number);
+            }
+            None => self.wide = true,
+        }
+    }
+
+    /// Computes the values of the equations at these positions anew.
+    pub(crate) fn refresh(&mut self, variables: &Variables, tableau: &Tableau, positions: &[usize])
+        requires shaped { IsShaped (length variables.now.low) tableau.now }
+        requires inside { All (λ i. i < length tableau.now.equations) positions.now }
+        requires others { AreNotedBut variables.now tableau.now self.old positions.now }
+        ensures { AreNoted variables.now tableau.now self.new }
+    {
+        for i in positions {
+            self.note(variables, tableau, *i);
+        }
+    }
+}
+
+/// The positions below the count.
+fn all_positions(alloc: Global, count: usize) -> Result<Vec<usize>, AllocError>
+    ensures inside { IfOk result (λ positions. All (λ i. i < count) positions.items) }
+    ensures all { IfOk result (λ positions. (i : ℕ) → i < count → Contains positions.items i) }
+{
+    let mut positions = Vec::with_capacity(alloc, count)?;
+    for i in 0..count {
+        positions.push(i)?;
+    }
+    Ok(positions)
+}
+
+/// So many sides, none of them known yet.
+fn no_sides(alloc: Global, count: usize) -> Result<Vec<Option<bool>>, AllocError>
+    ensures { IfOk result (λ sides. sides.items ≡ replicate count None) }
+{
+    let mut sides = Vec::with_capacity(alloc, count)?;
+    for _ in 0..count {
+        sides.push(None)?;
+    }
+    Ok(sides)
+}
 
 /// The total with the coefficient times the value added, or none where the product or the sum does not fit.
 fn add_product(total: i128, coefficient: i128, value: i128) -> Option<i128>
@@ -45,26 +172,4 @@ pub(crate) fn value(variables: &Variables, at_high: &[bool], terms: &[(u32, i128
         total = add_term(variables, at_high, total, term);
     }
     total
-}
-
-/// Lead times the value of each equation's variable, by position; or none where a product or a sum does not fit.
-pub(crate) fn values(
-    alloc: Global,
-    variables: &Variables,
-    at_high: &[bool],
-    equations: &[Equation],
-) -> Result<Option<Vec<i128>>, AllocError>
-    requires flags { length at_high.now ≡ length variables.now.low }
-    requires named { All (IsAmong (length variables.now.low)) equations.now }
-    ensures { IfOk result (λ values. option_map (λ v. v.items) values
-        ≡ values_of (resting variables.now at_high.now) equations.now) }
-{
-    let mut values = Vec::with_capacity(alloc, equations.len())?;
-    for equation in equations {
-        match value(variables, at_high, equation.terms()) {
-            Some(value) => values.push(value)?,
-            None => return Ok(None),
-        }
-    }
-    Ok(Some(values))
 }

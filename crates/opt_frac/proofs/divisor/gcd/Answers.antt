@@ -13,4 +13,4 @@ returns-then-y-eq0 c =
 
 pub returns : goal.returns
 returns c =
-    rw (c.from-2.ensures, c.short_gcd.ensures) (gcd-mod c.loop-y.x c.loop-y.y (omega arith) ∙ c.loop-y.invariant)
+    rw (c.from-3.ensures, c.short_gcd-2.ensures) (gcd-mod c.loop-y.x c.loop-y.y (omega arith) ∙ c.loop-y.invariant)
