@@ -1,0 +1,9 @@
+pub mod Heads
+pub mod Lengths
+pub mod Lookups
+pub mod MonthLists
+pub mod Once
+pub mod OneToOne
+pub mod Quotients
+pub mod Ranges
+pub mod RecordLists

@@ -1,0 +1,9 @@
+-- the records so far
+use Rattle.std.proofs.Common.{◌≡◌, ◌++◌, ◌∷◌, [], take}
+use Rattle.opt_model.specs.Quantities.{over, over_months, list_if}
+use Rattle.opt_model.specs.declared.quantity.Quantity.TheVariants.{Ship}
+use Rattle.opt_network.specs.Counts.{arrives}
+use Rattle.opt_network.proofs.flows.add_arc.Given as goal
+
+abbrev pub invariant-loop-commodity : goal.invariant-loop-commodity
+invariant-loop-commodity l = l.list.items ≡ l.initial.list.items ++ (over (take l.commodity l.tables.commodities) λ n _. over_months l.tables λ m. list_if (arrives l.tables.settings.months l.arc m) (Ship l.number n m ∷ []))

@@ -1,0 +1,10 @@
+-- the months so far
+use Rattle.std.proofs.Common.{◌≡◌, ◌++◌, ◌∷◌, []}
+use Rattle.std.specs.List.{flat_map, range_with_len}
+use Rattle.opt_model.specs.Quantities.{list_if, is_offered}
+use Rattle.opt_model.specs.declared.quantity.Quantity.TheVariants.{Feed}
+use Rattle.opt_network.specs.Counts.{is_fed}
+use Rattle.opt_network.proofs.flows.add_feed_months.Given as goal
+
+abbrev pub invariant-loop-earlier : goal.invariant-loop-earlier
+invariant-loop-earlier l = l.list.items ≡ l.initial.list.items ++ flat_map (λ m. list_if (is_fed l.tables l.number l.place.kind m) (Feed l.number l.commodity m ∷ [])) (range_with_len 1 l.earlier)

@@ -1,0 +1,9 @@
+-- the records so far
+use Rattle.std.proofs.Common.{◌≡◌, ◌++◌, ◌∷◌, [], take}
+use Rattle.opt_model.specs.Quantities.{over, over_months, list_if, is_offered}
+use Rattle.opt_model.specs.declared.quantity.Quantity.TheVariants.{Ship}
+use Rattle.opt_network.specs.Counts.{arrives}
+use Rattle.opt_network.proofs.flows.add_ships.Given as goal
+
+abbrev pub invariant-loop-number : goal.invariant-loop-number
+invariant-loop-number l = l.list.items ≡ l.initial.list.items ++ (over (take l.number l.tables.arcs) λ n x. over l.tables.commodities λ c _. over_months l.tables λ m. list_if (arrives l.tables.settings.months x m) (Ship n c m ∷ []))
