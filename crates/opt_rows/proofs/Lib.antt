@@ -1,0 +1,9 @@
+pub mod Totals
+pub mod Numbering
+pub mod Feasibility
+pub mod Law
+pub mod Finding
+pub mod RowNames
+pub mod Gathering
+pub mod Distinct
+pub mod RowCounts

@@ -1,0 +1,5 @@
+pub mod Systems
+pub mod Laws
+pub mod Texts
+pub mod Names
+pub mod Gathering
