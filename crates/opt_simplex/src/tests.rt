@@ -1,12 +1,15 @@
 mod by_hand;
+mod country;
 mod guides;
 mod load;
 mod outside;
 mod reading;
 
 use crate::tests::reading::{Ending, Outcome, expected_end, small, system};
-use crate::{LpEnd, Raw, Why, solve};
+use crate::{LpEnd, Raw, SimplexGuide, Why, solve};
 use opt_base::{ModelFault, OutOfMemory};
+use opt_bound::{Leaf, leaf_at};
+use opt_guide::Guide;
 use opt_system::System;
 use std::alloc::Global;
 use std::process::Abort;
@@ -118,5 +121,31 @@ fn the_limit_stops(rt: HostRuntime) -> Result<(), Fail> {
 #[test]
 fn wide_numbers_stop(rt: HostRuntime) -> Result<(), Fail> {
     assert_cases(&rt, rt.alloc(), &outside::STOPPED_BY_WIDE)?;
+    Ok(())
+}
+
+/// The lower bound that the guide's multipliers show of the system's root.
+fn root_bound(rt: &impl Abort, alloc: Global, system: &System) -> Result<Leaf, OutOfMemory> {
+    let range = system.root().copy(alloc)?;
+    let within = range.lies_in(system.root());
+    assert!(rt; within);
+    let mult = SimplexGuide::new(alloc).multipliers(alloc, system, &range)?;
+    let admissible = mult.admissible(system);
+    assert!(rt; admissible);
+    Ok(leaf_at(system, &range, &mult))
+}
+
+/// The root of a country ends after so many pivots, and its bound is the least cost of a plan.
+#[test]
+fn a_country_has_its_least_cost(rt: HostRuntime) -> Result<(), Fail> {
+    let alloc = rt.alloc();
+    let system = system(&rt, alloc, &mut country::ROOT.split_whitespace())?;
+    let end = end_of(&rt, alloc, &system, 20_000)?;
+    assert_eq!(rt; outcome(&end), Outcome::Optimal);
+    assert_eq!(rt; done(&end), 737);
+    assert_eq!(rt;
+        root_bound(&rt, alloc, &system)?,
+        Leaf::AtLeast(3_451_324_500)
+    );
     Ok(())
 }
