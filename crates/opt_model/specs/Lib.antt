@@ -8,3 +8,4 @@ pub mod Plans
 pub mod Verdicts
 pub mod Limits
 pub mod Texts
+pub mod RowTexts

@@ -1,5 +1,4 @@
 pub mod Systems
 pub mod Laws
-pub mod Texts
 pub mod Names
 pub mod Gathering

@@ -1,5 +1,5 @@
 ghost use Rattle.std.specs.Prelude.{◌≡◌};
-ghost use Rattle.opt_rows.specs.Texts.{basket_name, nutrient_name, group_name, place_name, commodity_name, arc_name, offer_name};
+ghost use Rattle.opt_model.specs.RowTexts.{basket_name, nutrient_name, group_name, place_name, commodity_name, arc_name, offer_name};
 
 use opt_tables::Tables;
 

@@ -1,5 +1,5 @@
 ghost use Rattle.std.specs.Prelude.{◌≡◌, IfOk, string_bytes};
-ghost use Rattle.opt_rows.specs.Texts.{row_text, one_named, two_named, basket_named, place_name as place_of, commodity_name as commodity_of};
+ghost use Rattle.opt_model.specs.RowTexts.{row_text, one_named, two_named, basket_named, place_name as place_of, commodity_name as commodity_of};
 
 use crate::record_names::{
     arc_name, basket_name, commodity_name, group_name, nutrient_name, offer_name, place_name,
