@@ -1,19 +1,19 @@
 -- How many persons a place feeds.
-use Rattle.std.proofs.Common.{◌≡◌, ℕ, ◌+◌, ◌*◌, ◌<◌, ◌≤◌, ◌^◌, zero, suc, Bool, true, false, cond, List, [], ◌∷◌, ◌++◌, length, take, get_or, Option, Some, None, ℤ, pos, ◌+ℤ◌, ◌≤ℤ◌, All, refl, sym, ap, ◌∙◌, arith, length-take}
+use Rattle.std.proofs.Common.{◌≡◌, ℕ, ◌+◌, ◌<◌, ◌^◌, Bool, true, false, cond, List, [], ◌∷◌, length, take, Some, ℤ, pos, ◌+ℤ◌, All, ap, ◌∙◌, arith}
 use Rattle.std.specs.Prelude.{◌&&◌, ◌==◌}
 use Rattle.std.specs.List.{find}
 use Rattle.std.specs.Option.{option_map_or}
 use Rattle.std.proofs.lemmas.Int.{ints}
 use Rattle.std.proofs.lemmas.List.Elements.{All-head, All-tail}
 use Rattle.opt_model.specs.Tables.{Tables, heads_at}
-use Rattle.opt_model.specs.Quantities.{over, sum_over, all_heads}
+use Rattle.opt_model.specs.Quantities.{over, sum_over}
 use Rattle.opt_model.specs.declared.records.Persons.{Persons}
 use Rattle.opt_model.proofs.Sums.{sum_over-append}
-use Rattle.opt_tables.specs.Facts.{IsFrom, IsPersons, IsModel}
+use Rattle.opt_tables.specs.Facts.{IsFrom, IsModel}
 use Rattle.opt_network.proofs.RecordLists.{over_next}
 
 -- a number of a record that is found, or 0
-found_within : {A : Type 0} (f : A → ℤ) (most : ℕ) (test : A → Bool) (xs : List A) → All (λ x. IsFrom (pos 0) (pos most) (f x)) xs
+pub found_within : {A : Type 0} (f : A → ℤ) (most : ℕ) (test : A → Bool) (xs : List A) → All (λ x. IsFrom (pos 0) (pos most) (f x)) xs
     → IsFrom (pos 0) (pos most) (option_map_or f (find test xs) (pos 0))
 found_within f most test [] h = record { above = omega (arith, ints); below = omega (arith, ints) }
 found_within {A = A} f most test (x ∷ xs) h =

@@ -1,13 +1,11 @@
 -- How long the lists of quantities are.
-use Rattle.std.proofs.Common.{◌≡◌, ℕ, ◌+◌, ◌*◌, ◌≤◌, zero, suc, Bool, true, false, ◌&&◌, cond, List, [], ◌∷◌, ◌++◌, length, count_by, sum_by, refl, sym, ap, ap₂, ◌∙◌, arith, length-append, append-nil, zero-mul}
-use Rattle.std.specs.Prelude.{nat_le, int_lt, pos}
+use Rattle.std.proofs.Common.{◌≡◌, ℕ, ◌+◌, ◌*◌, zero, suc, Bool, true, false, cond, List, [], ◌∷◌, ◌++◌, length, count_by, sum_by, refl, sym, ap, ◌∙◌, arith, length-append, append-nil, zero-mul}
 use Rattle.std.specs.List.{flat_map, enumerate_from, range_with_len}
 use Rattle.std.proofs.lemmas.List.Sums.{sum_by-cons}
 use Rattle.std.proofs.lemmas.List.FromFn.{length-range_with_len}
 use Rattle.std.proofs.Math.Nat.{mul_comm}
 use Rattle.opt_model.specs.Tables.{Tables}
-use Rattle.opt_model.specs.Quantities.{over, over_months, list_if, is_offered, has_order, rations, shorts, buys, ships, keeps, feeds, orders, quantities}
-use Rattle.opt_model.specs.declared.records.Place.{Place}
+use Rattle.opt_model.specs.Quantities.{over, over_months, list_if, is_offered, rations, shorts, buys, ships, keeps, feeds, orders, quantities}
 use Rattle.opt_model.specs.declared.quantity.Quantity.{Quantity}
 use Rattle.opt_model.specs.declared.quantity.Quantity.TheVariants.{Ration, Short, Buy, Ship, Keep, Feed, Order}
 use Rattle.opt_model.proofs.Sums.{over_from, over-empty}

@@ -1,3 +1,4 @@
+pub mod FedMarks
 pub mod Heads
 pub mod Lengths
 pub mod Lookups

@@ -1,5 +1,5 @@
 -- Quantities are found by their numbers and numbers by their quantities.
-use Rattle.std.proofs.Common.{◌≡◌, ℕ, ◌+◌, ◌<◌, ◌≤◌, zero, suc, Bool, true, false, cond, not, ◌||◌, if◌then◌else◌, List, [], ◌∷◌, ◌++◌, length, take, get_or, count_by, sum_by, position, Option, Some, None, refl, sym, ap, ◌∙◌, arith}
+use Rattle.std.proofs.Common.{◌≡◌, ℕ, ◌+◌, ◌<◌, ◌≤◌, zero, suc, Bool, true, false, cond, not, ◌||◌, if◌then◌else◌, List, [], ◌∷◌, ◌++◌, length, take, get_or, count_by, position, Some, None, refl, sym, ap, ◌∙◌, arith}
 use Rattle.std.specs.Prelude.{slice_get, nat_lt}
 use Rattle.std.specs.List.{position_or_len, list_any}
 use Rattle.std.proofs.lemmas.Bool.{lt-ltb}
@@ -47,7 +47,7 @@ module _ {X : Type 0} (p : X → Bool) where
       omega (arith, count_by-cons y ys, one)
   counted-there (y ∷ ys) (suc i) x at e = omega (arith, count_by-cons y ys, counted-there ys i x at e)
 
-  first_at : (xs : List X) (i : ℕ) (x : X) → slice_get xs i ≡ Some x → p x ≡ true → count_by p xs ≤ 1 → position_or_len p xs ≡ i
+  pub first_at : (xs : List X) (i : ℕ) (x : X) → slice_get xs i ≡ Some x → p x ≡ true → count_by p xs ≤ 1 → position_or_len p xs ≡ i
   first_at [] i x at e few = cc
   first_at (y ∷ ys) zero x at e few =
       let same : y ≡ x = cc in

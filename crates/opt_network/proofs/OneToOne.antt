@@ -1,6 +1,6 @@
 -- Each quantity that exists has one number.
-use Rattle.std.proofs.Common.{◌≡◌, ℕ, ◌+◌, ◌≤◌, zero, suc, Bool, true, false, ◌&&◌, cond, List, [], ◌∷◌, ◌++◌, count_by, refl, sym, ap, ◌∙◌, arith}
-use Rattle.std.specs.Prelude.{◌==◌, nat_le, int_lt, int_le, pos}
+use Rattle.std.proofs.Common.{◌≡◌, ℕ, ◌+◌, Bool, true, false, ◌&&◌, ◌++◌, count_by, refl, ap, ◌∙◌, arith}
+use Rattle.std.specs.Prelude.{nat_le, int_lt, int_le, pos}
 use Rattle.opt_model.specs.Tables.{Tables}
 use Rattle.opt_model.specs.Quantities.{is_point, is_offered, has_order, all_heads, same_quantity, rations, shorts, buys, ships, keeps, feeds, orders, quantities}
 use Rattle.opt_model.specs.declared.records.Basket.{Basket}
@@ -10,7 +10,7 @@ use Rattle.opt_model.specs.declared.records.Arc.{Arc}
 use Rattle.opt_model.specs.declared.records.Place.{Place}
 use Rattle.opt_model.specs.declared.quantity.Quantity.{Quantity}
 use Rattle.opt_model.specs.declared.quantity.Quantity.TheVariants.{Ration, Short, Buy, Ship, Keep, Feed, Order}
-use Rattle.opt_network.specs.Numbering.{has_record, has_record_where, has_month, has_quantity}
+use Rattle.opt_network.specs.Numbering.{has_record, has_month, has_quantity}
 use Rattle.opt_network.proofs.Once.{bit, count_by-append, has_record_where-true, none-three, one-three, none-two, one-two}
 
 -- ---- when a quantity of each kind exists

@@ -1,18 +1,17 @@
 -- The ranges of quantities, and that they are small.
-use Rattle.std.proofs.Common.{◌≡◌, ℕ, ◌+◌, ◌*◌, ◌/◌, ◌<◌, ◌≤◌, ◌^◌, zero, suc, Bool, true, false, ◌&&◌, cond, List, [], ◌∷◌, ◌++◌, length, map, get_or, take, Option, Some, None, ℤ, pos, negsuc, ◌+ℤ◌, ◌*ℤ◌, ◌≤ℤ◌, All, inl, inr, refl, sym, ap, ◌∙◌, subst, arith, count_by}
-use Rattle.std.specs.Prelude.{◌-◌, slice_get, nat_lt, nat_le, slice_index}
+use Rattle.std.proofs.Common.{◌≡◌, ℕ, ◌+◌, ◌*◌, ◌<◌, ◌≤◌, ◌^◌, zero, suc, Bool, true, false, ◌&&◌, List, [], ◌∷◌, ◌++◌, length, map, get_or, take, Option, Some, None, ℤ, pos, negsuc, ◌*ℤ◌, ◌≤ℤ◌, All, inl, inr, refl, sym, ap, ◌∙◌, subst, arith, count_by}
+use Rattle.std.specs.Prelude.{◌-◌, slice_get, nat_le}
 use Rattle.std.specs.Option.{option_map_or}
 use Rattle.std.proofs.Math.Nat.{mul-le-mul, div-le_self, mul-div-le}
 use Rattle.std.proofs.lemmas.Bool.{and_parts, both_ways, ltb-true, leb-true, cases_Bool}
 use Rattle.std.proofs.lemmas.Int.{ints}
 use Rattle.std.proofs.lemmas.List.{get_or-map, length-map, take_more, map-append}
-use Rattle.std.proofs.lemmas.List.Elements.{All-head, All-tail, All-get_or}
+use Rattle.std.proofs.lemmas.List.Elements.{All-head, All-tail}
 use Rattle.std.proofs.lemmas.Option.{slice_get_cases, slice_get-get_or}
 use Rattle.opt_base.specs.declared.limits.TheConstants.{QUANTITY_LIMIT}
 use Rattle.opt_model.specs.Settings.{Settings, days_of}
 use Rattle.opt_model.specs.Tables.{Tables, heads_at}
-use Rattle.opt_model.specs.Quantities.{over, sum_over, of_record, all_heads, ceil_div, floor_div, least_steps, most_steps, most_grams, low, high, quantities, rations, same_quantity, shorts, buys, ships, keeps, feeds, orders}
-use Rattle.opt_model.specs.declared.limits.TheConstants.{BASKET_LIMIT}
+use Rattle.opt_model.specs.Quantities.{over, sum_over, of_record, all_heads, ceil_div, floor_div, least_steps, most_steps, most_grams, low, high, quantities, rations, same_quantity}
 use Rattle.opt_model.specs.declared.records.Commodity.{Commodity}
 use Rattle.opt_model.specs.declared.records.Need.{Need}
 use Rattle.opt_model.specs.declared.records.Offer.{Offer}

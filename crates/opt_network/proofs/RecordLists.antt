@@ -1,11 +1,10 @@
 -- Lists that are made record by record.
-use Rattle.std.proofs.Common.{◌≡◌, ℕ, ◌+◌, ◌<◌, ◌≤◌, zero, suc, List, [], ◌∷◌, ◌++◌, length, take, get_or, sum_by, refl, sym, ap, ap₂, ◌∙◌, arith, append-nil, append_assoc, length-take}
+use Rattle.std.proofs.Common.{◌≡◌, ℕ, ◌+◌, ◌<◌, ◌≤◌, List, [], ◌∷◌, ◌++◌, length, take, get_or, sum_by, sym, ap, ◌∙◌, arith, append-nil, append_assoc, length-take}
 use Rattle.std.specs.List.{flat_map, enumerate_from}
 use Rattle.std.proofs.lemmas.Grind.{flat_map-append}
 use Rattle.std.proofs.lemmas.List.{take_more}
 use Rattle.std.proofs.lemmas.List.Sums.{sum_by-append}
 use Rattle.opt_model.specs.Quantities.{over}
-use Rattle.opt_model.proofs.Sums.{over_from}
 use Rattle.opt_network.specs.Counts.{sum_numbered}
 
 -- the length of the first records

@@ -1,5 +1,5 @@
 -- How many quantities of each kind a model has.
-use Rattle.std.specs.Prelude.{ℕ, ◌+◌, ◌*◌, ◌&&◌, Bool, nat_le, List, length, count_by, sum_by, pos, int_lt, int_le}
+use Rattle.std.specs.Prelude.{ℕ, ◌+◌, ◌&&◌, Bool, nat_le, List, count_by, sum_by, pos, int_lt, int_le}
 use Rattle.std.specs.List.{enumerate_from, range_with_len}
 use Rattle.opt_model.specs.Tables.{Tables}
 use Rattle.opt_model.specs.Quantities.{is_point, is_offered, has_order, all_heads}

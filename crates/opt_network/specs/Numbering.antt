@@ -1,5 +1,5 @@
 -- The quantities of a model by their numbers, with their ranges, and which models have few enough of them.
-use Rattle.std.specs.Prelude.{◌≡◌, ℕ, ◌+◌, ◌^◌, ◌<◌, ◌≤◌, ◌&&◌, Bool, true, false, nat_lt, nat_le, List, length, map, count_by, Result, Ok, Err, ℤ, pos, ◌≤ℤ◌, int_lt, int_le, slice_get, slice_index_or, if◌then◌else◌}
+use Rattle.std.specs.Prelude.{◌≡◌, ℕ, ◌+◌, ◌^◌, ◌<◌, ◌≤◌, ◌&&◌, Bool, false, nat_lt, nat_le, List, length, map, count_by, Result, Ok, Err, ℤ, pos, ◌≤ℤ◌, int_lt, int_le, slice_get, slice_index_or, if◌then◌else◌}
 use Rattle.std.specs.Option.{option_map_or}
 use Rattle.opt_base.specs.declared.limits.TheConstants.{QUANTITY_LIMIT, QUANTITIES_COLUMN}
 use Rattle.opt_base.specs.declared.refusal.Refusal.{Refusal}

@@ -1,17 +1,20 @@
 //! How many quantities a model has, by arithmetic on its tables.
 ghost use Rattle.std.specs.Prelude.{◌≡◌, ◌*◌, ◌^◌, ◌≤◌, count_by, length, sum_by};
 ghost use Rattle.opt_model.specs.Quantities.{rations, shorts, ships, keeps, feeds, quantities};
+ghost use Rattle.opt_model.specs.declared.limits.TheConstants.{MONTH_LIMIT};
+ghost use Rattle.opt_network.specs.Fed.{MarksFed};
 ghost use Rattle.opt_tables.specs.Facts.{IsModel};
 ghost use Rattle.opt_network.specs.Counts.{offered_months, ordered_months, departure_months, fed_months};
 ghost use Rattle.opt_network.specs.Counts.{has_storage, sum_numbered};
 
+use crate::fed::FedMonths;
 use crate::months::{departure_months, fed_months, offered_months, ordered_months};
 use opt_tables::{Place, Tables};
 
 /// A count that recurs in each of so many months.
 fn in_all_months(count: u64, months: u32) -> u64
     requires count { count ≤ 2 ^ 24 }
-    requires months { months ≤ 36 }
+    requires months { months ≤ MONTH_LIMIT }
     ensures value { result ≡ count * months }
     ensures few { result ≤ 2 ^ 30 }
 {
@@ -112,26 +115,28 @@ fn keep_count(tables: &Tables) -> u64
 
 /// In how many months a place feeds somebody, over all places.
 #[tactic(auto, using(crate::proofs::RecordLists::sum_numbered_more))]
-fn fed_count(tables: &Tables) -> u64
-    requires { IsModel tables.now }
+fn fed_count(tables: &Tables, fed: &FedMonths) -> u64
+    requires model { IsModel tables.now }
+    requires fed { MarksFed tables.now fed.now }
     ensures count { result ≡ sum_numbered tables.now.places (fed_months tables.now) }
     ensures few { result ≤ 2 ^ 30 }
 {
     let mut count = 0;
     for (number, place) in tables.places().iter().enumerate() {
-        count += fed_months(tables, number as u32, place);
+        count += fed_months(tables, fed, number as u32, place);
     }
     count
 }
 
 /// How many quantities of food that is handed out there are.
 #[tactic(auto, using(crate::proofs::Lengths::length_feeds))]
-fn feed_count(tables: &Tables) -> u64
-    requires { IsModel tables.now }
+fn feed_count(tables: &Tables, fed: &FedMonths) -> u64
+    requires model { IsModel tables.now }
+    requires fed { MarksFed tables.now fed.now }
     ensures count { result ≡ length (feeds tables.now) }
     ensures few { result ≤ 2 ^ 54 }
 {
-    in_all_records(tables.commodities().len() as u64, fed_count(tables))
+    in_all_records(tables.commodities().len() as u64, fed_count(tables, fed))
 }
 
 /// How many orders there are.
@@ -151,8 +156,9 @@ fn order_count(tables: &Tables) -> u64
 
 /// How many quantities a model has.
 #[tactic(auto, using(crate::proofs::Lengths::counted_quantities))]
-pub fn quantity_count(tables: &Tables) -> u64
-    requires { IsModel tables.now }
+pub fn quantity_count(tables: &Tables, fed: &FedMonths) -> u64
+    requires model { IsModel tables.now }
+    requires fed { MarksFed tables.now fed.now }
     ensures { result ≡ length (quantities tables.now) }
 {
     ration_count(tables)
@@ -160,6 +166,6 @@ pub fn quantity_count(tables: &Tables) -> u64
         + buy_count(tables)
         + ship_count(tables)
         + keep_count(tables)
-        + feed_count(tables)
+        + feed_count(tables, fed)
         + order_count(tables)
 }

@@ -2,10 +2,12 @@
 ghost use Rattle.std.specs.Prelude.{◌≡◌, ◌≤◌, [], ◌∷◌, ◌++◌, OnOk};
 ghost use Rattle.opt_model.specs.Quantities.{over, over_months, list_if, ships, keeps, feeds};
 ghost use Rattle.opt_model.specs.declared.quantity.Quantity.TheVariants.{Ship, Keep, Feed};
+ghost use Rattle.opt_model.specs.declared.limits.TheConstants.{LEAD_LIMIT};
+ghost use Rattle.opt_network.specs.Fed.{MarksFed};
 ghost use Rattle.opt_tables.specs.Facts.{IsModel};
 ghost use Rattle.opt_network.specs.Counts.{arrives, has_storage, is_fed};
 
-use crate::fed::is_fed;
+use crate::fed::FedMonths;
 use crate::listing::add_if;
 use crate::months::{arrives, departure_months, fed_months, has_storage};
 use opt_model::{Arc, Place, Quantity};
@@ -21,7 +23,7 @@ fn add_ship_months(
     arc: &Arc,
 ) -> Result<(), AllocError>
     requires model { IsModel tables.now }
-    requires lead { arc.now.lead ≤ 12 }
+    requires lead { arc.now.lead ≤ LEAD_LIMIT }
     ensures { OnOk result (list.new.items ≡ list.old.items ++ (over_months tables.now
         λ m. list_if (arrives tables.now.settings.months arc.now m) (Ship number commodity m ∷ []))) }
 {
@@ -46,7 +48,7 @@ fn add_arc(
     arc: &Arc,
 ) -> Result<(), AllocError>
     requires model { IsModel tables.now }
-    requires lead { arc.now.lead ≤ 12 }
+    requires lead { arc.now.lead ≤ LEAD_LIMIT }
     ensures { OnOk result (list.new.items ≡ list.old.items
         ++ (over tables.now.commodities λ c _. over_months tables.now
         λ m. list_if (arrives tables.now.settings.months arc.now m) (Ship number c m ∷ []))) }
@@ -130,11 +132,13 @@ pub fn add_keeps(list: &mut Vec<Quantity>, tables: &Tables) -> Result<(), AllocE
 fn add_feed_months(
     list: &mut Vec<Quantity>,
     tables: &Tables,
+    fed: &FedMonths,
     number: u32,
     commodity: u32,
     place: &Place,
 ) -> Result<(), AllocError>
-    requires { IsModel tables.now }
+    requires model { IsModel tables.now }
+    requires fed { MarksFed tables.now fed.now }
     ensures { OnOk result (list.new.items ≡ list.old.items ++ (over_months tables.now
         λ m. list_if (is_fed tables.now number place.now.kind m) (Feed number commodity m ∷ []))) }
 {
@@ -145,7 +149,7 @@ fn add_feed_months(
             commodity,
             month,
         };
-        add_if(list, is_fed(tables, number, place.kind, month), feed)?;
+        add_if(list, fed.is_fed(number, place.kind, month), feed)?;
     }
     Ok(())
 }
@@ -154,30 +158,37 @@ fn add_feed_months(
 fn add_place(
     list: &mut Vec<Quantity>,
     tables: &Tables,
+    fed: &FedMonths,
     number: u32,
     place: &Place,
 ) -> Result<(), AllocError>
-    requires { IsModel tables.now }
+    requires model { IsModel tables.now }
+    requires fed { MarksFed tables.now fed.now }
     ensures { OnOk result (list.new.items ≡ list.old.items
         ++ (over tables.now.commodities λ c _. over_months tables.now
         λ m. list_if (is_fed tables.now number place.now.kind m) (Feed number c m ∷ []))) }
 {
-    if fed_months(tables, number, place) == 0 {
+    if fed_months(tables, fed, number, place) == 0 {
         return Ok(());
     }
     for commodity in 0..tables.commodities().len() {
-        add_feed_months(list, tables, number, commodity as u32, place)?;
+        add_feed_months(list, tables, fed, number, commodity as u32, place)?;
     }
     Ok(())
 }
 
 /// Adds what is handed out at all places.
-pub fn add_feeds(list: &mut Vec<Quantity>, tables: &Tables) -> Result<(), AllocError>
-    requires { IsModel tables.now }
+pub fn add_feeds(
+    list: &mut Vec<Quantity>,
+    tables: &Tables,
+    fed: &FedMonths,
+) -> Result<(), AllocError>
+    requires model { IsModel tables.now }
+    requires fed { MarksFed tables.now fed.now }
     ensures { OnOk result (list.new.items ≡ list.old.items ++ feeds tables.now) }
 {
     for (number, place) in tables.places().iter().enumerate() {
-        add_place(list, tables, number as u32, place)?;
+        add_place(list, tables, fed, number as u32, place)?;
     }
     Ok(())
 }

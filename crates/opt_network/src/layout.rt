@@ -2,10 +2,12 @@ ghost use Rattle.std.specs.Prelude.{◌≡◌, ◌<◌, ◌≤◌, length, posit
 ghost use Rattle.opt_base.specs.Answers.{Gives};
 ghost use Rattle.opt_model.specs.Quantities.{same_quantity, quantities};
 ghost use Rattle.opt_base.specs.declared.limits.TheConstants.{QUANTITY_LIMIT};
+ghost use Rattle.opt_network.specs.Fed.{MarksFed};
 ghost use Rattle.opt_tables.specs.Facts.{IsModel};
 ghost use Rattle.opt_network.specs.Numbering.{IsLayoutOf, IsNumbering, limited_numbering};
 
 use crate::counts::{quantity_count, ration_count};
+use crate::fed::FedMonths;
 use crate::listing::list_quantities;
 use crate::numbers::number_quantities;
 use crate::spans::spans_of;
@@ -56,20 +58,22 @@ impl Layout {
         ensures answer { Gives (λ layout. layout) result (limited_numbering tables.now) }
     {
         let _settings = tables.settings();
-        let count = quantity_count(tables);
+        let fed = FedMonths::of_tables(alloc, tables)?;
+        let count = quantity_count(tables, &fed);
         if count > QUANTITY_LIMIT as u64 {
             return Err(ModelFault::Refused(Refusal::too_many(QUANTITIES_COLUMN, count)));
         }
-        Ok(Layout::of_tables(alloc, tables)?)
+        Ok(Layout::of_tables(alloc, tables, &fed)?)
     }
 
     /// The layout of a model whose quantities are within their limit.
-    fn of_tables(alloc: Global, tables: &Tables) -> Result<Layout, AllocError>
+    fn of_tables(alloc: Global, tables: &Tables, fed: &FedMonths) -> Result<Layout, AllocError>
         requires model { IsModel tables.now }
+        requires fed { MarksFed tables.now fed.now }
         requires few { length (quantities tables.now) ≤ QUANTITY_LIMIT }
         ensures { IfOk result (λ layout. IsLayoutOf tables.now layout) }
     {
-        let list = list_quantities(alloc, tables)?;
+        let list = list_quantities(alloc, tables, fed)?;
         let spans = spans_of(alloc, tables, &list)?;
         let quantities = number_quantities(alloc, &list)?;
         Ok(Layout {
@@ -103,7 +107,7 @@ impl Layout {
     {
         match self.quantities.get_index(i as usize) {
             Some(quantity) => *quantity,
-            None => Quantity::Short { need: 0, month: 0 },
+            None => unreachable!(),
         }
     }
 

@@ -15,5 +15,5 @@ mod tests;
 
 pub use fed::is_fed;
 pub use layout::Layout;
-pub use months::is_ordered;
+pub use months::{departure_months, is_ordered};
 pub use opt_model::Quantity;

@@ -3,9 +3,11 @@ ghost use Rattle.std.specs.Prelude.{◌≡◌, [], ◌∷◌, ◌++◌, OnOk, If
 ghost use Rattle.opt_model.specs.Quantities.{over, over_months, list_if, is_offered};
 ghost use Rattle.opt_model.specs.Quantities.{rations, shorts, buys, orders, quantities};
 ghost use Rattle.opt_model.specs.declared.quantity.Quantity.TheVariants.{Ration, Short, Buy, Order};
+ghost use Rattle.opt_network.specs.Fed.{MarksFed};
 ghost use Rattle.opt_tables.specs.Facts.{IsModel};
 ghost use Rattle.opt_network.specs.Counts.{is_ordered};
 
+use crate::fed::FedMonths;
 use crate::flows::{add_feeds, add_keeps, add_ships};
 use crate::months::{is_offered, is_ordered};
 use opt_model::{Offer, Quantity};
@@ -161,8 +163,13 @@ fn add_orders(list: &mut Vec<Quantity>, tables: &Tables) -> Result<(), AllocErro
 }
 
 /// The quantities of a model, in the order of their numbers.
-pub fn list_quantities(alloc: Global, tables: &Tables) -> Result<Vec<Quantity>, AllocError>
-    requires { IsModel tables.now }
+pub fn list_quantities(
+    alloc: Global,
+    tables: &Tables,
+    fed: &FedMonths,
+) -> Result<Vec<Quantity>, AllocError>
+    requires model { IsModel tables.now }
+    requires fed { MarksFed tables.now fed.now }
     ensures { IfOk result (λ list. list.items ≡ quantities tables.now) }
 {
     let mut list = Vec::new(alloc);
@@ -171,7 +178,7 @@ pub fn list_quantities(alloc: Global, tables: &Tables) -> Result<Vec<Quantity>, 
     add_buys(&mut list, tables)?;
     add_ships(&mut list, tables)?;
     add_keeps(&mut list, tables)?;
-    add_feeds(&mut list, tables)?;
+    add_feeds(&mut list, tables, fed)?;
     add_orders(&mut list, tables)?;
     Ok(list)
 }

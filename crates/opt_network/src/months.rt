@@ -2,9 +2,11 @@
 ghost use Rattle.std.specs.Prelude.{◌≡◌, ◌≤◌};
 ghost use Rattle.opt_model.specs.Quantities.{is_offered, has_order};
 ghost use Rattle.opt_network.specs.Counts.{month_count, is_ordered, arrives, fed_months, has_storage};
+ghost use Rattle.opt_model.specs.declared.limits.TheConstants.{MONTH_LIMIT, LEAD_LIMIT};
+ghost use Rattle.opt_network.specs.Fed.{MarksFed};
 ghost use Rattle.opt_tables.specs.Facts.{IsModel};
 
-use crate::fed::is_fed;
+use crate::fed::FedMonths;
 use opt_model::{Arc, Offer, Place};
 use opt_tables::Tables;
 
@@ -31,8 +33,8 @@ pub fn is_ordered(offer: &Offer, month: u32) -> bool
 
 /// Whether what leaves on an arc in a month arrives within so many months.
 pub fn arrives(months: u32, arc: &Arc, month: u32) -> bool
-    requires month { month ≤ 36 }
-    requires lead { arc.now.lead ≤ 12 }
+    requires month { month ≤ MONTH_LIMIT }
+    requires lead { arc.now.lead ≤ LEAD_LIMIT }
     ensures { result ≡ arrives months arc.now month }
 {
     month + arc.lead <= months
@@ -48,9 +50,9 @@ pub fn has_storage(place: &Place) -> bool
 /// In how many of so many months an offer stands.
 #[tactic(auto, using(crate::proofs::MonthLists::month_count_more, crate::proofs::MonthLists::month_count_few))]
 pub fn offered_months(offer: &Offer, months: u32) -> u64
-    requires { months ≤ 36 }
+    requires { months ≤ MONTH_LIMIT }
     ensures count { result ≡ month_count months (is_offered offer.now) }
-    ensures few { result ≤ 36 }
+    ensures few { result ≤ MONTH_LIMIT }
 {
     let mut count = 0;
     for earlier in 0..months {
@@ -62,9 +64,9 @@ pub fn offered_months(offer: &Offer, months: u32) -> u64
 /// In how many of so many months an offer stands that has a fee or a least lot.
 #[tactic(auto, using(crate::proofs::MonthLists::ordered_count))]
 pub fn ordered_months(offer: &Offer, months: u32) -> u64
-    requires { months ≤ 36 }
+    requires { months ≤ MONTH_LIMIT }
     ensures count { result ≡ month_count months (is_ordered offer.now) }
-    ensures few { result ≤ 36 }
+    ensures few { result ≤ MONTH_LIMIT }
 {
     if has_order(offer) {
         offered_months(offer, months)
@@ -76,10 +78,10 @@ pub fn ordered_months(offer: &Offer, months: u32) -> u64
 /// In how many of so many months something leaves on an arc.
 #[tactic(auto, using(crate::proofs::MonthLists::month_count_more, crate::proofs::MonthLists::month_count_few))]
 pub fn departure_months(arc: &Arc, months: u32) -> u64
-    requires months { months ≤ 36 }
-    requires lead { arc.now.lead ≤ 12 }
+    requires months { months ≤ MONTH_LIMIT }
+    requires lead { arc.now.lead ≤ LEAD_LIMIT }
     ensures count { result ≡ month_count months (arrives months arc.now) }
-    ensures few { result ≤ 36 }
+    ensures few { result ≤ MONTH_LIMIT }
 {
     let mut count = 0;
     for earlier in 0..months {
@@ -90,14 +92,15 @@ pub fn departure_months(arc: &Arc, months: u32) -> u64
 
 /// In how many months a place feeds somebody.
 #[tactic(auto, using(crate::proofs::MonthLists::month_count_more, crate::proofs::MonthLists::month_count_few))]
-pub fn fed_months(tables: &Tables, number: u32, place: &Place) -> u64
-    requires { IsModel tables.now }
+pub fn fed_months(tables: &Tables, fed: &FedMonths, number: u32, place: &Place) -> u64
+    requires model { IsModel tables.now }
+    requires fed { MarksFed tables.now fed.now }
     ensures count { result ≡ fed_months tables.now number place.now }
-    ensures few { result ≤ 36 }
+    ensures few { result ≤ MONTH_LIMIT }
 {
     let mut count = 0;
     for earlier in 0..tables.settings().months() {
-        count += u64::from(is_fed(tables, number, place.kind, earlier + 1));
+        count += u64::from(fed.is_fed(number, place.kind, earlier + 1));
     }
     count
 }

@@ -1,7 +1,6 @@
-use Rattle.std.proofs.Common.{◌≡◌, ◌+◌, ◌*◌, ◌<◌, ◌≤◌, ◌^◌, ◌≤ℤ◌, ◌+ℤ◌, length, pos, ap, arith}
+use Rattle.std.proofs.Common.{◌≡◌, ◌+◌, ◌<◌, ◌+ℤ◌, length, ap, arith}
 use Rattle.std.proofs.lemmas.Int.{ints}
 use Rattle.opt_model.specs.Tables.{heads_at}
-use Rattle.opt_model.specs.declared.limits.TheConstants.{BASKET_LIMIT}
 use Rattle.opt_network.proofs.Heads.{heads_below, heads_more}
 use Rattle.opt_network.proofs.fed.all_heads.Goals as goal
 

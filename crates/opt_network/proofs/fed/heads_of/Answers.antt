@@ -1,7 +1,5 @@
-use Rattle.std.proofs.Common.{◌^◌, ◌≤ℤ◌, pos, arith}
+use Rattle.std.proofs.Common.{arith}
 use Rattle.std.proofs.lemmas.Int.{ints}
-use Rattle.opt_model.specs.Tables.{heads_at}
-use Rattle.opt_tables.specs.Facts.{IsFrom}
 use Rattle.opt_network.proofs.Heads.{heads_within}
 use Rattle.opt_network.proofs.fed.heads_of.Goals as goal
 

@@ -1,7 +1,7 @@
 -- the months so far
 use Rattle.std.proofs.Common.{◌≡◌, ◌++◌, ◌∷◌, []}
 use Rattle.std.specs.List.{flat_map, range_with_len}
-use Rattle.opt_model.specs.Quantities.{list_if, is_offered}
+use Rattle.opt_model.specs.Quantities.{list_if}
 use Rattle.opt_model.specs.declared.quantity.Quantity.TheVariants.{Feed}
 use Rattle.opt_network.specs.Counts.{is_fed}
 use Rattle.opt_network.proofs.flows.add_feed_months.Given as goal

@@ -1,6 +1,6 @@
 -- the records so far
 use Rattle.std.proofs.Common.{◌≡◌, ◌++◌, ◌∷◌, [], take}
-use Rattle.opt_model.specs.Quantities.{over, over_months, list_if, is_offered}
+use Rattle.opt_model.specs.Quantities.{over, over_months, list_if}
 use Rattle.opt_model.specs.declared.quantity.Quantity.TheVariants.{Feed}
 use Rattle.opt_network.specs.Counts.{is_fed}
 use Rattle.opt_network.proofs.flows.add_feeds.Given as goal

@@ -1,4 +1,3 @@
-use Rattle.std.proofs.Common.{ℕ}
 use Rattle.opt_network.specs.Counts.{has_storage}
 use Rattle.opt_model.specs.declared.quantity.Quantity.TheVariants.{Keep}
 use Rattle.opt_network.proofs.MonthLists.{test_step}

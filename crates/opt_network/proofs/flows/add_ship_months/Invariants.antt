@@ -1,7 +1,7 @@
 -- the months so far
 use Rattle.std.proofs.Common.{◌≡◌, ◌++◌, ◌∷◌, []}
 use Rattle.std.specs.List.{flat_map, range_with_len}
-use Rattle.opt_model.specs.Quantities.{list_if, is_offered}
+use Rattle.opt_model.specs.Quantities.{list_if}
 use Rattle.opt_model.specs.declared.quantity.Quantity.TheVariants.{Ship}
 use Rattle.opt_network.specs.Counts.{arrives}
 use Rattle.opt_network.proofs.flows.add_ship_months.Given as goal

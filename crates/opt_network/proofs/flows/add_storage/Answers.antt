@@ -1,4 +1,4 @@
-use Rattle.std.proofs.Common.{ℕ, ◌<◌, length, ap, arith, sym, ◌∙◌}
+use Rattle.std.proofs.Common.{◌<◌, length, ap, arith, sym, ◌∙◌}
 use Rattle.opt_model.specs.declared.quantity.Quantity.TheVariants.{Keep}
 use Rattle.opt_network.specs.Counts.{has_storage}
 use Rattle.opt_network.proofs.Lengths.{none_listed, in_no_month}

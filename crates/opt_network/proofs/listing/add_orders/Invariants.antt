@@ -1,6 +1,6 @@
 -- the records so far
 use Rattle.std.proofs.Common.{◌≡◌, ◌++◌, ◌∷◌, [], take}
-use Rattle.opt_model.specs.Quantities.{over, over_months, list_if, is_offered}
+use Rattle.opt_model.specs.Quantities.{over, over_months, list_if}
 use Rattle.opt_model.specs.declared.quantity.Quantity.TheVariants.{Order}
 use Rattle.opt_network.specs.Counts.{is_ordered}
 use Rattle.opt_network.proofs.listing.add_orders.Given as goal

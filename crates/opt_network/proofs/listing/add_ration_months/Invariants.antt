@@ -1,7 +1,6 @@
 -- the months so far
 use Rattle.std.proofs.Common.{◌≡◌, ◌++◌, ◌∷◌, []}
 use Rattle.std.specs.List.{flat_map, range_with_len}
-use Rattle.opt_model.specs.Quantities.{list_if, is_offered}
 use Rattle.opt_model.specs.declared.quantity.Quantity.TheVariants.{Ration}
 use Rattle.opt_network.proofs.listing.add_ration_months.Given as goal
 

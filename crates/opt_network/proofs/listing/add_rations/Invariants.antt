@@ -1,6 +1,6 @@
 -- the records so far
 use Rattle.std.proofs.Common.{◌≡◌, ◌++◌, ◌∷◌, [], take}
-use Rattle.opt_model.specs.Quantities.{over, over_months, list_if}
+use Rattle.opt_model.specs.Quantities.{over, over_months}
 use Rattle.opt_model.specs.declared.quantity.Quantity.TheVariants.{Ration}
 use Rattle.opt_network.proofs.listing.add_rations.Given as goal
 

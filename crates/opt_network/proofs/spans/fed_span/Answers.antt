@@ -1,4 +1,4 @@
-use Rattle.std.proofs.Common.{◌≡◌, ◌<◌, ◌≤ℤ◌, ◌*ℤ◌, length, pos, ap, sym, subst, arith, to_z, of_z, w64}
+use Rattle.std.proofs.Common.{◌≡◌, ◌<◌, ◌*ℤ◌, length, pos, ap, sym, subst, arith, to_z, of_z, w64}
 use Rattle.std.proofs.lemmas.Int.{ints}
 use Rattle.opt_model.specs.Settings.{days_of}
 use Rattle.opt_model.specs.Quantities.{all_heads, ceil_div, most_grams, most_steps}

@@ -1,6 +1,6 @@
-use Rattle.std.proofs.Common.{◌≡◌, ◌+ℤ◌, ◌-ℤ◌, ◌≤ℤ◌, ◌^◌, int_div, pos, refl, arith, to_z, of_z, w64}
+use Rattle.std.proofs.Common.{◌≡◌, ◌+ℤ◌, ◌-ℤ◌, int_div, pos, arith, to_z, of_z, w64}
 use Rattle.std.proofs.lemmas.Int.{ints}
-use Rattle.opt_model.specs.Quantities.{ceil_div, least_steps, most_steps}
+use Rattle.opt_model.specs.Quantities.{least_steps}
 use Rattle.opt_network.proofs.Quotients.{rounded_up}
 use Rattle.opt_network.proofs.Ranges.{steps_span}
 use Rattle.opt_network.proofs.spans.least_steps.Goals as goal

@@ -1,4 +1,4 @@
-use Rattle.std.proofs.Common.{◌<◌, ◌≤◌, length, pos, sym, ◌∙◌}
+use Rattle.std.proofs.Common.{◌<◌, length, pos, sym, ◌∙◌}
 use Rattle.std.specs.Prelude.{nat_le, int_lt, ◌+◌}
 use Rattle.opt_model.specs.Quantities.{is_offered, least_steps, most_steps}
 use Rattle.opt_model.specs.declared.records.Need.{Need}

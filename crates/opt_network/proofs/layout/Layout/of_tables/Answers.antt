@@ -1,4 +1,4 @@
-use Rattle.std.proofs.Common.{◌≡◌, ℕ, ◌≤◌, true, List, All, count_by, map, sym, ap, subst, ◌∙◌}
+use Rattle.std.proofs.Common.{◌≡◌, ◌≤◌, true, List, All, count_by, map, sym, ap, subst, ◌∙◌}
 use Rattle.opt_model.specs.Quantities.{same_quantity, quantities, low, high}
 use Rattle.opt_model.specs.declared.quantity.Quantity.{Quantity}
 use Rattle.opt_network.specs.Numbering.{Numbering, numbering_of, IsNumbering, has_quantity}
