@@ -8,7 +8,7 @@ use Rattle.std.proofs.Math.Nat.{eq-zero_of_zero-dvd}
 use Rattle.std.proofs.lemmas.List.Elements.{All-nil, All-cons, All-head, All-tail}
 use Rattle.opt_sums.specs.Entries.{weighted_sum}
 use Rattle.opt_sums.proofs.Ring.{mul_add, mul_assoc, mul_neg}
-use Rattle.opt_frac.specs.Divisors.{gcd_within, gcd, gcd_with, divided}
+use Rattle.opt_frac.specs.Divisors.{gcd_within, gcd, gcd_with, quotients}
 use Rattle.opt_frac.specs.Equations.{Equation, divisor_of, lowest}
 
 -- ---- greatest common divisors
@@ -55,15 +55,15 @@ quotient_positive d (pos zero) c h k = absurd (omega (arith, ints))
 quotient_positive d (pos (suc n)) c h k = omega (arith, ints)
 quotient_positive d (negsuc n) c h k = absurd (omega (arith, ints, mul_neg (pos d) (pos (suc n))))
 
-pub weighted_sum-divided : (d : ℕ) (es : List (ℕ × ℤ)) (f : ℕ → ℤ) → All (λ e. d ∣ unsigned_abs e.1) es → pos d *ℤ weighted_sum (divided d es) f ≡ weighted_sum es f
-weighted_sum-divided d [] f h = omega (arith, ints)
-weighted_sum-divided d (e ∷ es) f h =
+pub weighted_sum-quotients : (d : ℕ) (es : List (ℕ × ℤ)) (f : ℕ → ℤ) → All (λ e. d ∣ unsigned_abs e.1) es → pos d *ℤ weighted_sum (quotients d es) f ≡ weighted_sum es f
+weighted_sum-quotients d [] f h = omega (arith, ints)
+weighted_sum-quotients d (e ∷ es) f h =
     let here : pos d *ℤ int_div e.1 (pos d) ≡ e.1 = exact e.1 d (All-head (λ a. d ∣ unsigned_abs a.1) e es h) in
     omega (
       arith,
       ints,
-      weighted_sum-divided d es f (All-tail (λ a. d ∣ unsigned_abs a.1) e es h),
-      mul_add (pos d) (int_div e.1 (pos d) *ℤ f e.0) (weighted_sum (divided d es) f),
+      weighted_sum-quotients d es f (All-tail (λ a. d ∣ unsigned_abs a.1) e es h),
+      mul_add (pos d) (int_div e.1 (pos d) *ℤ f e.0) (weighted_sum (quotients d es) f),
       mul_assoc (pos d) (int_div e.1 (pos d)) (f e.0),
       ap (λ n. n *ℤ f e.0) here,
     )
@@ -87,5 +87,5 @@ lowest-is e h =
       same_basic = refl;
       lead = quotient;
       lead_positive = quotient_positive (divisor_of e) (int_div e.lead (pos (divisor_of e))) e.lead quotient h;
-      each = λ f. weighted_sum-divided (divisor_of e) e.terms f divides.1;
+      each = λ f. weighted_sum-quotients (divisor_of e) e.terms f divides.1;
     }

@@ -4,7 +4,7 @@ use Rattle.std.proofs.lemmas.Nat.Gcd.{le_of_dvd}
 use Rattle.std.proofs.lemmas.List.{take_more_set, map_more, drop_more, drop-set-lt}
 use Rattle.std.proofs.Math.Nat.{eq-one_of_dvd-one, pos_of_dvd_of_pos, div-one}
 use Rattle.opt_frac.proofs.Divisions.{gcd-is, gcd_with-divides, exact, quotient_positive}
-use Rattle.opt_frac.specs.Divisors.{gcd_within, gcd, gcd_with, divided}
+use Rattle.opt_frac.specs.Divisors.{gcd_within, gcd, gcd_with, quotients}
 
 -- more steps than the second number asks for change nothing
 gcd_within-enough : (n m a b : ℕ) → b < n → b < m → gcd_within n a b ≡ gcd_within m a b
@@ -49,12 +49,12 @@ int_div-one : (z : ℤ) → int_div z (pos 1) ≡ z
 int_div-one (pos n) = ap pos (div-one n)
 int_div-one (negsuc n) = rw (div-one (suc n)) refl
 
-pub divided-one : (es : List (ℕ × ℤ)) → divided 1 es ≡ es
-divided-one [] = refl
-divided-one (e ∷ es) = rw (int_div-one e.1, divided-one es) refl
+pub quotients-one : (es : List (ℕ × ℤ)) → quotients 1 es ≡ es
+quotients-one [] = refl
+quotients-one (e ∷ es) = rw (int_div-one e.1, quotients-one es) refl
 
 -- one coefficient more is divided in place
-pub divided_more : (d : ℕ) (old now : List (ℕ × ℤ)) (i : ℕ) (y : ℤ) → i < length old → i < length now → y ≡ int_div (get_or now i (0, pos 0)).1 (pos d) → (take i now ≡ divided d (take i old)) × (drop i now ≡ drop i old) → (take (i + 1) (set now i ((get_or now i (0, pos 0)).0, y)) ≡ divided d (take (i + 1) old)) × (drop (i + 1) (set now i ((get_or now i (0, pos 0)).0, y)) ≡ drop (i + 1) old)
+pub divided_more : (d : ℕ) (old now : List (ℕ × ℤ)) (i : ℕ) (y : ℤ) → i < length old → i < length now → y ≡ int_div (get_or now i (0, pos 0)).1 (pos d) → (take i now ≡ quotients d (take i old)) × (drop i now ≡ drop i old) → (take (i + 1) (set now i ((get_or now i (0, pos 0)).0, y)) ≡ quotients d (take (i + 1) old)) × (drop (i + 1) (set now i ((get_or now i (0, pos 0)).0, y)) ≡ drop (i + 1) old)
 divided_more d old now i y h k value is =
     let nothing : ℕ × ℤ = (0, pos 0) in
     let rests : (get_or now i nothing ∷ drop (i + 1) now) ≡ (get_or old i nothing ∷ drop (i + 1) old) =
@@ -63,8 +63,8 @@ divided_more d old now i y h k value is =
     let here : get_or now i nothing ≡ get_or old i nothing = ap (λ s. get_or s 0 nothing) rests in (
       take_more_set now i ((get_or now i nothing).0, y) k
           ∙ ap (λ s. s ++ ((get_or now i nothing).0, y) ∷ []) is.0
-          ∙ ap (λ z. divided d (take i old) ++ ((get_or now i nothing).0, z) ∷ []) value
-          ∙ ap (λ e. divided d (take i old) ++ (e.0, int_div e.1 (pos d)) ∷ []) here
+          ∙ ap (λ z. quotients d (take i old) ++ ((get_or now i nothing).0, z) ∷ []) value
+          ∙ ap (λ e. quotients d (take i old) ++ (e.0, int_div e.1 (pos d)) ∷ []) here
           ∙ sym (map_more (λ (e : ℕ × ℤ). (e.0, int_div e.1 (pos d))) old i nothing h),
       drop-set-lt (i + 1) now i ((get_or now i nothing).0, y) (omega arith) ∙ ap (drop 1) rests,
     )

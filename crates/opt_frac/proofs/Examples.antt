@@ -2,8 +2,8 @@
 use Rattle.std.proofs.Common.{◌≡◌, ◌^◌, [], ◌∷◌, pos, negsuc, Some, None, refl}
 use Rattle.std.specs.declared.cmp.Ordering.TheVariants.{Less}
 use Rattle.opt_frac.specs.Divisors.{gcd}
-use Rattle.opt_frac.specs.Equations.{Equation, lowest, compared}
-use Rattle.opt_frac.specs.Elimination.{turned, eliminated}
+use Rattle.opt_frac.specs.Equations.{Equation, lowest, comparison}
+use Rattle.opt_frac.specs.Elimination.{solution_for, elimination}
 
 -- 3·x5 = 2·x0 - 4·x1
 given : Equation
@@ -13,21 +13,21 @@ given = record { basic = 5; lead = pos 3; terms = (0, pos 2) ∷ (1, negsuc 3) �
 solved : Equation
 solved = record { basic = 0; lead = pos 2; terms = (1, pos 4) ∷ (5, pos 3) ∷ [] }
 
-turned_example : turned 0 given ≡ solved
-unfolding turned given solved
+turned_example : solution_for 0 given ≡ solved
+unfolding solution_for given solved
 turned_example = refl
 
 -- put into 5·x6 = x0 + 7·x2: 10·x6 = 4·x1 + 14·x2 + 3·x5
-eliminated_example : eliminated solved (record { basic = 6; lead = pos 5; terms = (0, pos 1) ∷ (2, pos 7) ∷ [] }) ≡ Some (record { basic = 6; lead = pos 10; terms = (1, pos 4) ∷ (2, pos 14) ∷ (5, pos 3) ∷ [] })
-unfolding eliminated gcd lowest solved
+eliminated_example : elimination solved (record { basic = 6; lead = pos 5; terms = (0, pos 1) ∷ (2, pos 7) ∷ [] }) ≡ Some (record { basic = 6; lead = pos 10; terms = (1, pos 4) ∷ (2, pos 14) ∷ (5, pos 3) ∷ [] })
+unfolding elimination gcd lowest solved
 eliminated_example = refl
 
 -- 2 · 2^126 does not fit
-wide_example : eliminated solved (record { basic = 6; lead = pos (2 ^ 126); terms = (0, pos 1) ∷ [] }) ≡ None
-unfolding eliminated gcd lowest solved
+wide_example : elimination solved (record { basic = 6; lead = pos (2 ^ 126); terms = (0, pos 1) ∷ [] }) ≡ None
+unfolding elimination gcd lowest solved
 wide_example = refl
 
-compared_example : compared (negsuc 0) (pos 2) (negsuc 0) (pos 3) ≡ Less
+compared_example : comparison (negsuc 0) (pos 2) (negsuc 0) (pos 3) ≡ Less
 compared_example = refl
 
 -- 4·x1 - 6·x2 = 10·x3 is 2·x1 - 3·x2 = 5·x3

@@ -5,10 +5,10 @@ use Rattle.std.proofs.lemmas.Int.{ints}
 use Rattle.opt_sums.specs.Sums.{at}
 use Rattle.opt_sums.specs.Entries.{coef}
 use Rattle.opt_frac.specs.Equations.{Equation, Holds, HasTerm, IsReduced, SameValues, SameValuesWhere}
-use Rattle.opt_frac.specs.Elimination.{turned, eliminated}
+use Rattle.opt_frac.specs.Elimination.{solution_for, elimination}
 use Rattle.opt_frac.specs.Replacing.{IsMade}
-use Rattle.opt_frac.proofs.ReducedLemmas.{reduced-eliminated, apart_from}
-use Rattle.opt_frac.proofs.Steps.{gap, IsTurned, turned-is, IsReplaced, replaced-is}
+use Rattle.opt_frac.proofs.ReducedLemmas.{reduced-elimination, apart_from}
+use Rattle.opt_frac.proofs.Steps.{gap, IsTurned, solution_for-is, IsReplaced, replacement-is}
 
 gap_of : (e : Equation) (x : List ℤ) → Holds e x → gap e (at x) ≡ pos 0
 gap_of e x h = omega (arith, ints, h)
@@ -24,12 +24,12 @@ zero_sign : (b : Bool) (z : ℤ) → (if b then neg_ℤ z else z) ≡ pos 0 → 
 zero_sign true z h = omega (arith, ints)
 zero_sign false z h = h
 
-pub same_values-turned : (col : ℕ) (e : Equation) → col ≢ e.basic → coef e.terms col ≢ pos 0 → SameValues e (turned col e)
-same_values-turned col e apart h =
+pub same_values-solution_for : (col : ℕ) (e : Equation) → col ≢ e.basic → coef e.terms col ≢ pos 0 → SameValues e (solution_for col e)
+same_values-solution_for col e apart h =
     λ x.
-    let is : IsTurned col e (turned col e) = turned-is col e apart h in (
-      λ holds. holds_of (turned col e) x (is.each (at x) ∙ sign_zero (is_positive (coef e.terms col)) (gap e (at x)) (gap_of e x holds)),
-      λ holds. holds_of e x (zero_sign (is_positive (coef e.terms col)) (gap e (at x)) (sym (is.each (at x)) ∙ gap_of (turned col e) x holds)),
+    let is : IsTurned col e (solution_for col e) = solution_for-is col e apart h in (
+      λ holds. holds_of (solution_for col e) x (is.each (at x) ∙ sign_zero (is_positive (coef e.terms col)) (gap e (at x)) (gap_of e x holds)),
+      λ holds. holds_of e x (zero_sign (is_positive (coef e.terms col)) (gap e (at x)) (sym (is.each (at x)) ∙ gap_of (solution_for col e) x holds)),
     )
 
 -- a factor above 0 of a product that is 0
@@ -40,10 +40,10 @@ factor_zero (pos (suc n)) (pos (suc m)) h k = absurd (omega (arith, ints))
 factor_zero (pos (suc n)) (negsuc m) h k = absurd (omega (arith, ints))
 factor_zero (negsuc n) b h k = absurd (omega (arith, ints))
 
-pub same_values-eliminated : (by old new : Equation) → pos 1 ≤ℤ by.lead → pos 1 ≤ℤ old.lead → eliminated by old ≡ Some new → SameValuesWhere by old new
-same_values-eliminated by old new lead old_lead made =
+pub same_values-elimination : (by old new : Equation) → pos 1 ≤ℤ by.lead → pos 1 ≤ℤ old.lead → elimination by old ≡ Some new → SameValuesWhere by old new
+same_values-elimination by old new lead old_lead made =
     λ x meets.
-    let is : IsReplaced by old new = replaced-is by old new lead old_lead made in
+    let is : IsReplaced by old new = replacement-is by old new lead old_lead made in
     let each : is.scale *ℤ gap new (at x) ≡ by.lead *ℤ gap old (at x) =
     is.each (at x) ∙ omega (arith, ints, ap (λ g. coef old.terms by.basic *ℤ g) (gap_of by x meets))
     in (
@@ -51,8 +51,8 @@ same_values-eliminated by old new lead old_lead made =
       λ holds. holds_of old x (factor_zero by.lead (gap old (at x)) lead (sym each ∙ ap (λ g. is.scale *ℤ g) (gap_of new x holds) ∙ omega (arith, ints))),
     )
 
-pub IsMade-eliminated : (by old new : Equation) → IsReduced by → IsReduced old → HasTerm old by.basic → coef by.terms old.basic ≡ pos 0 → eliminated by old ≡ Some new → IsMade by old new
-IsMade-eliminated by old new by_reduced old_reduced term none made = record {
-  reduced = reduced-eliminated by old new by_reduced.solved old_reduced.solved term (apart_from by.terms old.basic by_reduced.solved.rising by_reduced.solved.no_zero none) made;
-  same_values = same_values-eliminated by old new by_reduced.solved.lead_positive old_reduced.solved.lead_positive made;
+pub IsMade-elimination : (by old new : Equation) → IsReduced by → IsReduced old → HasTerm old by.basic → coef by.terms old.basic ≡ pos 0 → elimination by old ≡ Some new → IsMade by old new
+IsMade-elimination by old new by_reduced old_reduced term none made = record {
+  reduced = reduced-elimination by old new by_reduced.solved old_reduced.solved term (apart_from by.terms old.basic by_reduced.solved.rising by_reduced.solved.no_zero none) made;
+  same_values = same_values-elimination by old new by_reduced.solved.lead_positive old_reduced.solved.lead_positive made;
 }

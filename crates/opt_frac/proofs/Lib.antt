@@ -14,4 +14,4 @@ pub mod NeatSteps
 pub mod TurnLemmas
 pub mod Laws
 pub mod ReducedLemmas
-pub mod TurnedLemmas
+pub mod SolutionLemmas

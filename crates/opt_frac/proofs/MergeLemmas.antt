@@ -3,9 +3,9 @@ use Rattle.std.proofs.Common.{◌≡◌, ℕ, ◌<◌, List, [], ◌∷◌, ◌+
 use Rattle.std.proofs.lemmas.List.Elements.{All-head, All-tail}
 use Rattle.std.proofs.lemmas.Bool.Decides.{nat_tests}
 use Rattle.opt_frac.specs.Divisors.{fits, all_fit}
-use Rattle.opt_frac.specs.Elimination.{more, summed, unless_zero}
+use Rattle.opt_frac.specs.Elimination.{more, merged_sum, unless_zero}
 use Rattle.opt_frac.specs.Merging.{sum_fits, sums_fit}
-use Rattle.opt_frac.proofs.Shapes.{numbers-summed}
+use Rattle.opt_frac.proofs.Shapes.{numbers-merged_sum}
 use Rattle.opt_frac.proofs.TermSums.{more_before, more_after, more_same}
 use Rattle.opt_frac.proofs.FitLemmas.{and_false_left, and_false_right}
 
@@ -19,17 +19,17 @@ more-front a [] h = refl
 more-front a (e ∷ es) h = more_before a e es (All-head (λ d. a.0 < d.0) e es h)
 
 -- ---- two lists by their first terms
-pub summed-left : (a : ℕ × ℤ) (es ds : List (ℕ × ℤ)) → Above a.0 es → Above a.0 ds → summed (a ∷ es) ds ≡ a ∷ summed es ds
-summed-left a es ds h k = more-front a (summed es ds) (numbers-summed (λ n. a.0 < n) es ds h k)
+pub merged_sum-left : (a : ℕ × ℤ) (es ds : List (ℕ × ℤ)) → Above a.0 es → Above a.0 ds → merged_sum (a ∷ es) ds ≡ a ∷ merged_sum es ds
+merged_sum-left a es ds h k = more-front a (merged_sum es ds) (numbers-merged_sum (λ n. a.0 < n) es ds h k)
 
-pub summed-right : (d : ℕ × ℤ) (es ds : List (ℕ × ℤ)) → Above d.0 es → Above d.0 ds → summed es (d ∷ ds) ≡ d ∷ summed es ds
-summed-right d [] ds h k = refl
-summed-right d (e ∷ es) ds h k =
-    ap (more e) (summed-right d es ds (All-tail (λ x. d.0 < x.0) e es h) k)
-    ∙ more_after e d (summed es ds) (All-head (λ x. d.0 < x.0) e es h)
+pub merged_sum-right : (d : ℕ × ℤ) (es ds : List (ℕ × ℤ)) → Above d.0 es → Above d.0 ds → merged_sum es (d ∷ ds) ≡ d ∷ merged_sum es ds
+merged_sum-right d [] ds h k = refl
+merged_sum-right d (e ∷ es) ds h k =
+    ap (more e) (merged_sum-right d es ds (All-tail (λ x. d.0 < x.0) e es h) k)
+    ∙ more_after e d (merged_sum es ds) (All-head (λ x. d.0 < x.0) e es h)
 
-pub summed-both : (a d : ℕ × ℤ) (es ds : List (ℕ × ℤ)) → a.0 ≡ d.0 → Above d.0 es → Above d.0 ds → summed (a ∷ es) (d ∷ ds) ≡ unless_zero (d.0, a.1 +ℤ d.1) (summed es ds)
-summed-both a d es ds same h k = ap (more a) (summed-right d es ds h k) ∙ more_same a d (summed es ds) same
+pub merged_sum-both : (a d : ℕ × ℤ) (es ds : List (ℕ × ℤ)) → a.0 ≡ d.0 → Above d.0 es → Above d.0 ds → merged_sum (a ∷ es) (d ∷ ds) ≡ unless_zero (d.0, a.1 +ℤ d.1) (merged_sum es ds)
+merged_sum-both a d es ds same h k = ap (more a) (merged_sum-right d es ds h k) ∙ more_same a d (merged_sum es ds) same
 
 unless_zero-append : (e : ℕ × ℤ) (es : List (ℕ × ℤ)) → unless_zero e es ≡ unless_zero e [] ++ es
 unless_zero-append e es = by_test (unsigned_abs e.1 == 0)
@@ -40,7 +40,7 @@ unless_zero-append e es = by_test (unsigned_abs e.1 == 0)
 
 -- ---- what is written so far and the sum of what is left make the whole, and what is left fits exactly where the whole does
 abbrev pub Adds : List (ℕ × ℤ) → List (ℕ × ℤ) → List (ℕ × ℤ) → List (ℕ × ℤ) → Bool → Type 0
-Adds sums kept added all fitting = (sums ++ summed kept added ≡ all) × (sums_fit kept added ≡ fitting)
+Adds sums kept added all fitting = (sums ++ merged_sum kept added ≡ all) × (sums_fit kept added ≡ fitting)
 
 fit_left : (f a k s : Bool) → f ≡ true → ((f && a) && (k && (f && s))) ≡ (a && (k && s))
 fit_left f a k s h = rw h refl
@@ -50,9 +50,9 @@ fit_right f a k s h = rw h refl
 
 pub adds_left : (sums : List (ℕ × ℤ)) (a : ℕ × ℤ) (es ds all : List (ℕ × ℤ)) (fitting : Bool) → Above a.0 es → Above a.0 ds → fits a.1 ≡ true → Adds sums (a ∷ es) ds all fitting → Adds (sums ++ a ∷ []) es ds all fitting
 adds_left sums a es ds all fitting h k fit is = (
-  append_assoc sums (a ∷ []) (summed es ds) ∙ ap (λ s. sums ++ s) (sym (summed-left a es ds h k)) ∙ is.0,
-  sym (fit_left (fits a.1) (all_fit es) (all_fit ds) (all_fit (summed es ds)) fit)
-      ∙ ap (λ s. (fits a.1 && all_fit es) && (all_fit ds && all_fit s)) (sym (summed-left a es ds h k))
+  append_assoc sums (a ∷ []) (merged_sum es ds) ∙ ap (λ s. sums ++ s) (sym (merged_sum-left a es ds h k)) ∙ is.0,
+  sym (fit_left (fits a.1) (all_fit es) (all_fit ds) (all_fit (merged_sum es ds)) fit)
+      ∙ ap (λ s. (fits a.1 && all_fit es) && (all_fit ds && all_fit s)) (sym (merged_sum-left a es ds h k))
       ∙ is.1,
 )
 
@@ -62,9 +62,9 @@ unfit_left sums a es ds all fitting unfit is =
 
 pub adds_right : (sums : List (ℕ × ℤ)) (d : ℕ × ℤ) (es ds all : List (ℕ × ℤ)) (fitting : Bool) → Above d.0 es → Above d.0 ds → fits d.1 ≡ true → Adds sums es (d ∷ ds) all fitting → Adds (sums ++ d ∷ []) es ds all fitting
 adds_right sums d es ds all fitting h k fit is = (
-  append_assoc sums (d ∷ []) (summed es ds) ∙ ap (λ s. sums ++ s) (sym (summed-right d es ds h k)) ∙ is.0,
-  sym (fit_right (fits d.1) (all_fit es) (all_fit ds) (all_fit (summed es ds)) fit)
-      ∙ ap (λ s. all_fit es && ((fits d.1 && all_fit ds) && all_fit s)) (sym (summed-right d es ds h k))
+  append_assoc sums (d ∷ []) (merged_sum es ds) ∙ ap (λ s. sums ++ s) (sym (merged_sum-right d es ds h k)) ∙ is.0,
+  sym (fit_right (fits d.1) (all_fit es) (all_fit ds) (all_fit (merged_sum es ds)) fit)
+      ∙ ap (λ s. all_fit es && ((fits d.1 && all_fit ds) && all_fit s)) (sym (merged_sum-right d es ds h k))
       ∙ is.1,
 )
 
@@ -98,14 +98,14 @@ fit_both f g a k s h i = rw (h, i) refl
 pub adds_both : (sums : List (ℕ × ℤ)) (a d : ℕ × ℤ) (es ds all : List (ℕ × ℤ)) (fitting : Bool) → a.0 ≡ d.0 → Above d.0 es → Above d.0 ds → sum_fits a.1 d.1 ≡ true → Adds sums (a ∷ es) (d ∷ ds) all fitting → Adds (sums ++ unless_zero (a.0, a.1 +ℤ d.1) []) es ds all fitting
 adds_both sums a d es ds all fitting same h k fit is =
     let each = both_true (fits a.1) (fits d.1) (fits (a.1 +ℤ d.1)) fit in
-    let sum : summed (a ∷ es) (d ∷ ds) ≡ unless_zero (a.0, a.1 +ℤ d.1) (summed es ds) =
-    summed-both a d es ds same h k ∙ ap (λ n. unless_zero (n, a.1 +ℤ d.1) (summed es ds)) (sym same)
+    let sum : merged_sum (a ∷ es) (d ∷ ds) ≡ unless_zero (a.0, a.1 +ℤ d.1) (merged_sum es ds) =
+    merged_sum-both a d es ds same h k ∙ ap (λ n. unless_zero (n, a.1 +ℤ d.1) (merged_sum es ds)) (sym same)
     in (
-      append_assoc sums (unless_zero (a.0, a.1 +ℤ d.1) []) (summed es ds)
-          ∙ ap (λ s. sums ++ s) (sym (unless_zero-append (a.0, a.1 +ℤ d.1) (summed es ds)) ∙ sym sum)
+      append_assoc sums (unless_zero (a.0, a.1 +ℤ d.1) []) (merged_sum es ds)
+          ∙ ap (λ s. sums ++ s) (sym (unless_zero-append (a.0, a.1 +ℤ d.1) (merged_sum es ds)) ∙ sym sum)
           ∙ is.0,
-      ap (λ s. all_fit es && (all_fit ds && s)) (sym (all_fit-unless_zero (a.0, a.1 +ℤ d.1) (summed es ds) each.2))
-          ∙ sym (fit_both (fits a.1) (fits d.1) (all_fit es) (all_fit ds) (all_fit (unless_zero (a.0, a.1 +ℤ d.1) (summed es ds))) each.0 each.1)
+      ap (λ s. all_fit es && (all_fit ds && s)) (sym (all_fit-unless_zero (a.0, a.1 +ℤ d.1) (merged_sum es ds) each.2))
+          ∙ sym (fit_both (fits a.1) (fits d.1) (all_fit es) (all_fit ds) (all_fit (unless_zero (a.0, a.1 +ℤ d.1) (merged_sum es ds))) each.0 each.1)
           ∙ ap (λ s. (fits a.1 && all_fit es) && ((fits d.1 && all_fit ds) && all_fit s)) (sym sum)
           ∙ is.1,
     )
@@ -118,8 +118,8 @@ unfit_one true true s a k t h i = and_false_right a _ (and_false_right k t (i h)
 pub unfit_both : (sums : List (ℕ × ℤ)) (a d : ℕ × ℤ) (es ds all : List (ℕ × ℤ)) (fitting : Bool) → a.0 ≡ d.0 → Above d.0 es → Above d.0 ds → sum_fits a.1 d.1 ≡ false → Adds sums (a ∷ es) (d ∷ ds) all fitting → fitting ≡ false
 unfit_both sums a d es ds all fitting same h k unfit is =
     sym is.1
-    ∙ unfit_one (fits a.1) (fits d.1) (fits (a.1 +ℤ d.1)) (all_fit es) (all_fit ds) (all_fit (summed (a ∷ es) (d ∷ ds))) unfit
-    (λ wide. ap all_fit (summed-both a d es ds same h k) ∙ unfit-unless_zero (d.0, a.1 +ℤ d.1) (summed es ds) wide)
+    ∙ unfit_one (fits a.1) (fits d.1) (fits (a.1 +ℤ d.1)) (all_fit es) (all_fit ds) (all_fit (merged_sum (a ∷ es) (d ∷ ds))) unfit
+    (λ wide. ap all_fit (merged_sum-both a d es ds same h k) ∙ unfit-unless_zero (d.0, a.1 +ℤ d.1) (merged_sum es ds) wide)
 
 -- ---- what is written so far and what is left of one list make the whole
 abbrev pub Keeps : List (ℕ × ℤ) → List (ℕ × ℤ) → List (ℕ × ℤ) → Bool → Type 0

@@ -8,14 +8,14 @@ use Rattle.std.proofs.lemmas.List.Elements.{All-nil, All-cons, All-head, All-tai
 use Rattle.opt_sums.specs.Entries.{coef, IsRising, HasNoZero, AllBelow}
 use Rattle.opt_sums.proofs.EntryLemmas.{coef-none}
 use Rattle.opt_sums.proofs.RisingLemmas.{coef-get_or}
-use Rattle.opt_frac.specs.Divisors.{gcd, gcd_with, divided, Fits, fits, all_fit}
+use Rattle.opt_frac.specs.Divisors.{gcd, gcd_with, quotients, Fits, fits, all_fit}
 use Rattle.opt_frac.specs.Equations.{Equation, IsSolved, IsReduced, divisor_of, lowest, HasTerm}
-use Rattle.opt_frac.specs.Elimination.{eliminated, summed, without}
+use Rattle.opt_frac.specs.Elimination.{elimination, merged_sum, without}
 use Rattle.opt_frac.specs.Merging.{sums_fit}
 use Rattle.opt_frac.specs.Replacing.{own_factor, own_terms, other_terms}
 use Rattle.opt_frac.proofs.Divisions.{gcd-is, gcd_with-divides, divisor_positive, exact}
 use Rattle.opt_frac.proofs.DivisorLemmas.{positive_quotient}
-use Rattle.opt_frac.proofs.NeatSteps.{IsNeat, neat-lowest, neat-eliminated}
+use Rattle.opt_frac.proofs.NeatSteps.{IsNeat, neat-lowest, neat-elimination}
 use Rattle.opt_frac.proofs.Steps.{product_positive}
 use Rattle.opt_frac.proofs.FitLemmas.{Fits-test, and_left, and_right, and_true, and_false_left}
 
@@ -36,12 +36,12 @@ times_divides d h z divides quotient =
     in
     rw size at (mul-dvd-mul_left h d quotient)
 
-times_divide : (d h : ℕ) (es : List (ℕ × ℤ)) → All (λ e. d ∣ unsigned_abs e.1) es → All (λ e. h ∣ unsigned_abs e.1) (divided d es) → All (λ e. (d * h) ∣ unsigned_abs e.1) es
-times_divide d h [] divides quotients = All-nil (λ e. (d * h) ∣ unsigned_abs e.1)
-times_divide d h (e ∷ es) divides quotients =
+times_divide : (d h : ℕ) (es : List (ℕ × ℤ)) → All (λ e. d ∣ unsigned_abs e.1) es → All (λ e. h ∣ unsigned_abs e.1) (quotients d es) → All (λ e. (d * h) ∣ unsigned_abs e.1) es
+times_divide d h [] divides parts = All-nil (λ e. (d * h) ∣ unsigned_abs e.1)
+times_divide d h (e ∷ es) divides parts =
     All-cons (λ a. (d * h) ∣ unsigned_abs a.1) e es
-    (times_divides d h e.1 (All-head (λ a. d ∣ unsigned_abs a.1) e es divides) (All-head (λ a. h ∣ unsigned_abs a.1) (e.0, int_div e.1 (pos d)) (divided d es) quotients))
-    (times_divide d h es (All-tail (λ a. d ∣ unsigned_abs a.1) e es divides) (All-tail (λ a. h ∣ unsigned_abs a.1) (e.0, int_div e.1 (pos d)) (divided d es) quotients))
+    (times_divides d h e.1 (All-head (λ a. d ∣ unsigned_abs a.1) e es divides) (All-head (λ a. h ∣ unsigned_abs a.1) (e.0, int_div e.1 (pos d)) (quotients d es) parts))
+    (times_divide d h es (All-tail (λ a. d ∣ unsigned_abs a.1) e es divides) (All-tail (λ a. h ∣ unsigned_abs a.1) (e.0, int_div e.1 (pos d)) (quotients d es) parts))
 
 -- divided by its greatest common divisor, an equation has no other common divisor than 1
 pub divisor-lowest : (e : Equation) → pos 1 ≤ℤ e.lead → divisor_of (lowest e) ≡ 1
@@ -50,9 +50,9 @@ divisor-lowest e lead =
     let d : ℕ = divisor_of e in
     let divides : (d ∣ unsigned_abs e.lead) × All (λ a. d ∣ unsigned_abs a.1) e.terms = gcd_with-divides (unsigned_abs e.lead) e.terms in
     let above : 0 < d = divisor_positive d (unsigned_abs e.lead) divides.0 (omega (arith, ints)) in
-    let h : ℕ = gcd_with (unsigned_abs (int_div e.lead (pos d))) (divided d e.terms) in
-    let quotients : (h ∣ unsigned_abs (int_div e.lead (pos d))) × All (λ a. h ∣ unsigned_abs a.1) (divided d e.terms) = gcd_with-divides (unsigned_abs (int_div e.lead (pos d))) (divided d e.terms) in
-    let whole : (d * h) ∣ d = gcd_with-greatest (d * h) (unsigned_abs e.lead) e.terms (times_divides d h e.lead divides.0 quotients.0) (times_divide d h e.terms divides.1 quotients.1) in
+    let h : ℕ = gcd_with (unsigned_abs (int_div e.lead (pos d))) (quotients d e.terms) in
+    let parts : (h ∣ unsigned_abs (int_div e.lead (pos d))) × All (λ a. h ∣ unsigned_abs a.1) (quotients d e.terms) = gcd_with-divides (unsigned_abs (int_div e.lead (pos d))) (quotients d e.terms) in
+    let whole : (d * h) ∣ d = gcd_with-greatest (d * h) (unsigned_abs e.lead) e.terms (times_divides d h e.lead divides.0 parts.0) (times_divide d h e.terms divides.1 parts.1) in
     let Divides : ℕ → Type 0 = λ n. (d * h) ∣ n in
     let one : d ≡ d * 1 = omega arith in
     eq-one_of_dvd-one (dvd_of_mul-dvd-mul_left h above (subst Divides one whole))
@@ -119,7 +119,7 @@ sum_of by old =
     record {
       basic = old.basic;
       lead = old.lead *ℤ own_factor by old;
-      terms = summed (own_terms by old) (other_terms by old);
+      terms = merged_sum (own_terms by old) (other_terms by old);
     }
 
 -- the new equation is the sum in lowest terms, and the sum's numbers fit
@@ -128,8 +128,8 @@ pub record IsFittingSum (by old new : Equation) : Type 0 where
   pub lead_fits : Fits (sum_of by old).lead
   pub fitting : All (λ e. Fits e.1) (sum_of by old).terms
 
-fitting_sum : (by old new : Equation) → eliminated by old ≡ Some new → IsFittingSum by old new
-unfolding eliminated
+fitting_sum : (by old new : Equation) → elimination by old ≡ Some new → IsFittingSum by old new
+unfolding elimination
 fitting_sum by old new h =
     let is = some_where _ (lowest (sum_of by old)) new h in
     record {
@@ -139,9 +139,9 @@ fitting_sum by old new h =
     }
 
 -- where the lead and the sums fit, the elimination is the sum in lowest terms
-pub eliminated-fitting : (by old : Equation) → fits (sum_of by old).lead ≡ true → sums_fit (own_terms by old) (other_terms by old) ≡ true → eliminated by old ≡ Some (lowest (sum_of by old))
-unfolding eliminated
-eliminated-fitting by old lead sums =
+pub elimination-fitting : (by old : Equation) → fits (sum_of by old).lead ≡ true → sums_fit (own_terms by old) (other_terms by old) ≡ true → elimination by old ≡ Some (lowest (sum_of by old))
+unfolding elimination
+elimination-fitting by old lead sums =
     let kept = and_left _ _ sums in
     let rest = and_right _ _ sums in
     if_true _ (and_true _ _ (and_true _ _ (and_true _ _ lead kept) (and_left _ _ rest)) (and_right _ _ rest))
@@ -152,9 +152,9 @@ eliminated-fitting by old lead sums =
 if_false : (t : Bool) (x : Equation) → t ≡ false → (if t then Some x else None) ≡ None
 if_false t x h = rw h refl
 
-pub eliminated-wide_lead : (by old : Equation) → fits (sum_of by old).lead ≡ false → eliminated by old ≡ None
-unfolding eliminated
-eliminated-wide_lead by old lead =
+pub elimination-wide_lead : (by old : Equation) → fits (sum_of by old).lead ≡ false → elimination by old ≡ None
+unfolding elimination
+elimination-wide_lead by old lead =
     if_false _ (lowest (sum_of by old)) (and_false_left _ _ (and_false_left _ _ (and_false_left _ _ lead)))
 
 regroup : (a b c d : Bool) → (b && (c && d)) ≡ false → (((a && b) && c) && d) ≡ false
@@ -163,9 +163,9 @@ regroup true false c d h = refl
 regroup true true false d h = refl
 regroup true true true d h = h
 
-pub eliminated-wide_sums : (by old : Equation) → sums_fit (own_terms by old) (other_terms by old) ≡ false → eliminated by old ≡ None
-unfolding eliminated
-eliminated-wide_sums by old sums = if_false _ (lowest (sum_of by old)) (regroup (fits (sum_of by old).lead) (all_fit (own_terms by old)) (all_fit (other_terms by old)) (all_fit (sum_of by old).terms) sums)
+pub elimination-wide_sums : (by old : Equation) → sums_fit (own_terms by old) (other_terms by old) ≡ false → elimination by old ≡ None
+unfolding elimination
+elimination-wide_sums by old sums = if_false _ (lowest (sum_of by old)) (regroup (fits (sum_of by old).lead) (all_fit (own_terms by old)) (all_fit (other_terms by old)) (all_fit (sum_of by old).terms) sums)
 
 -- no term of the replacing equation is left out
 pub without-apart : (k : ℕ) (es : List (ℕ × ℤ)) → All (λ e. e.0 ≢ k) es → without k es ≡ es
@@ -186,14 +186,14 @@ fits-lowest e lead terms = (
 pub own_positive : (by old : Equation) → pos 1 ≤ℤ by.lead → pos 1 ≤ℤ own_factor by old
 own_positive by old lead = positive_quotient by.lead (unsigned_abs (coef old.terms by.basic)) lead
 
-pub reduced-eliminated : (by old new : Equation) → IsSolved by → IsSolved old → HasTerm old by.basic → All (λ term. term.0 ≢ old.basic) by.terms → eliminated by old ≡ Some new → IsReduced new
-reduced-eliminated by old new by_solved old_solved term apart h =
+pub reduced-elimination : (by old new : Equation) → IsSolved by → IsSolved old → HasTerm old by.basic → All (λ term. term.0 ≢ old.basic) by.terms → elimination by old ≡ Some new → IsReduced new
+reduced-elimination by old new by_solved old_solved term apart h =
     let first : (n : ℕ) × AllBelow n by.terms = bound_of by.terms in
     let second : (n : ℕ) × AllBelow n old.terms = bound_of old.terms in
     let n : ℕ = max first.0 second.0 in
     let by_neat : IsNeat n by = neat by n by_solved (All-weaker (λ d. d.0 < first.0) (λ d. d.0 < n) (λ d k. omega arith) by.terms first.1) in
     let old_neat : IsNeat n old = neat old n old_solved (All-weaker (λ d. d.0 < second.0) (λ d. d.0 < n) (λ d k. omega arith) old.terms second.1) in
-    let is : IsNeat n new = neat-eliminated n by old new by_neat old_neat term apart h in
+    let is : IsNeat n new = neat-elimination n by old new by_neat old_neat term apart h in
     let sum : IsFittingSum by old new = fitting_sum by old new h in
     let fit : Fits (lowest (sum_of by old)).lead × All (λ a. Fits a.1) (lowest (sum_of by old)).terms = fits-lowest (sum_of by old) sum.lead_fits sum.fitting in
     record {

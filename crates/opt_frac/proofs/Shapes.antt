@@ -6,7 +6,7 @@ use Rattle.std.proofs.lemmas.List.Elements.{All-nil, All-cons, All-head, All-tai
 use Rattle.std.proofs.lemmas.List.Kept.{AllPairs-filter}
 use Rattle.opt_sums.specs.Entries.{IsRising, HasNoZero}
 use Rattle.opt_sums.proofs.RisingLemmas.{IsRising-nil, IsRising-cons, IsRising-head, IsRising-tail}
-use Rattle.opt_frac.specs.Elimination.{without, unless_zero, more, summed, negated_if}
+use Rattle.opt_frac.specs.Elimination.{without, unless_zero, more, merged_sum, negated_if}
 use Rattle.opt_frac.proofs.TermSums.{more_before, more_after, more_same}
 
 -- ---- which numbers the entries have
@@ -31,10 +31,10 @@ numbers-more P a (e ∷ es) h k =
           ]
     ]
 
-pub numbers-summed : (P : ℕ → Type 0) (es ds : List (ℕ × ℤ)) → All (λ d. P d.0) es → All (λ d. P d.0) ds → All (λ d. P d.0) (summed es ds)
-numbers-summed P [] ds h k = k
-numbers-summed P (e ∷ es) ds h k =
-    numbers-more P e (summed es ds) (All-head (λ d. P d.0) e es h) (numbers-summed P es ds (All-tail (λ d. P d.0) e es h) k)
+pub numbers-merged_sum : (P : ℕ → Type 0) (es ds : List (ℕ × ℤ)) → All (λ d. P d.0) es → All (λ d. P d.0) ds → All (λ d. P d.0) (merged_sum es ds)
+numbers-merged_sum P [] ds h k = k
+numbers-merged_sum P (e ∷ es) ds h k =
+    numbers-more P e (merged_sum es ds) (All-head (λ d. P d.0) e es h) (numbers-merged_sum P es ds (All-tail (λ d. P d.0) e es h) k)
 
 -- entries that keep their numbers
 pub numbers-map : (P : ℕ → Type 0) (h : ℕ × ℤ → ℤ) (es : List (ℕ × ℤ)) → All (λ d. P d.0) es → All (λ (d : ℕ × ℤ). P d.0) (map (λ e. (e.0, h e)) es)
@@ -77,9 +77,9 @@ rising-more a (e ∷ es) h =
           ]
     ]
 
-pub rising-summed : (es ds : List (ℕ × ℤ)) → IsRising ds → IsRising (summed es ds)
-rising-summed [] ds h = h
-rising-summed (e ∷ es) ds h = rising-more e (summed es ds) (rising-summed es ds h)
+pub rising-merged_sum : (es ds : List (ℕ × ℤ)) → IsRising ds → IsRising (merged_sum es ds)
+rising-merged_sum [] ds h = h
+rising-merged_sum (e ∷ es) ds h = rising-more e (merged_sum es ds) (rising-merged_sum es ds h)
 
 pub rising-map : (h : ℕ × ℤ → ℤ) (es : List (ℕ × ℤ)) → IsRising es → IsRising (map (λ e. (e.0, h e)) es)
 rising-map h [] k = IsRising-nil
@@ -115,10 +115,10 @@ no_zero-more a (e ∷ es) h k =
           ]
     ]
 
-pub no_zero-summed : (es ds : List (ℕ × ℤ)) → HasNoZero es → HasNoZero ds → HasNoZero (summed es ds)
-no_zero-summed [] ds h k = k
-no_zero-summed (e ∷ es) ds h k =
-    no_zero-more e (summed es ds) (All-head (λ d. d.1 ≢ pos 0) e es h) (no_zero-summed es ds (All-tail (λ d. d.1 ≢ pos 0) e es h) k)
+pub no_zero-merged_sum : (es ds : List (ℕ × ℤ)) → HasNoZero es → HasNoZero ds → HasNoZero (merged_sum es ds)
+no_zero-merged_sum [] ds h k = k
+no_zero-merged_sum (e ∷ es) ds h k =
+    no_zero-more e (merged_sum es ds) (All-head (λ d. d.1 ≢ pos 0) e es h) (no_zero-merged_sum es ds (All-tail (λ d. d.1 ≢ pos 0) e es h) k)
 
 pub no_zero-map : (h : ℕ × ℤ → ℤ) (es : List (ℕ × ℤ)) → All (λ e. h e ≢ pos 0) es → HasNoZero (map (λ e. (e.0, h e)) es)
 no_zero-map h es k = All-map (λ d. d.1 ≢ pos 0) (λ e. (e.0, h e)) es k

@@ -5,7 +5,7 @@ use Rattle.opt_frac.specs.declared.elim_fault.ElimFault.{ElimFault}
 use Rattle.opt_frac.specs.declared.elim_fault.ElimFault.TheVariants.{Wide, OutOfMemory}
 use Rattle.opt_frac.specs.Divisors.{fits, all_fit}
 use Rattle.opt_frac.specs.Elimination.{unless_zero}
-use Rattle.opt_frac.specs.Merging.{Writes, rest_of, scaled_at, term_at, sum_fits}
+use Rattle.opt_frac.specs.Merging.{Writes, rest_of, multiple_at, term_at, sum_fits}
 use Rattle.opt_frac.proofs.FitLemmas.{and_false_right}
 use Rattle.opt_frac.proofs.MergeLemmas.{Adds, adds_left, adds_right, adds_both, unfit_right, unfit_both}
 use Rattle.opt_frac.proofs.RestLemmas.{rest_take, rest_done, rest_above, rest_above_next, Left}
@@ -16,38 +16,38 @@ module _ (g f : ℤ) (col : ℕ) (kept added sums all : List (ℕ × ℤ)) (fitt
   Remains = Adds sums (rest_of g col kept i) (rest_of f col added k) all fitting
 
 module _ (g f : ℤ) (col : ℕ) (kept added sums all : List (ℕ × ℤ)) (fitting : Bool) (i k : ℕ) (kept_rising : IsRising kept) (added_rising : IsRising added) (in_kept : i < length kept) (in_added : k < length added) (is : Remains g f col kept added sums all fitting i k) where
-  pub left_step : (term_at kept i).0 ≢ col → (term_at kept i).0 < (term_at added k).0 → fits (scaled_at g kept i).1 ≡ true → Remains g f col kept added (sums ++ scaled_at g kept i ∷ []) all fitting (i + 1) k
+  pub left_step : (term_at kept i).0 ≢ col → (term_at kept i).0 < (term_at added k).0 → fits (multiple_at g kept i).1 ≡ true → Remains g f col kept added (sums ++ multiple_at g kept i ∷ []) all fitting (i + 1) k
   left_step other below fit =
-      adds_left sums (scaled_at g kept i) (rest_of g col kept (i + 1)) (rest_of f col added k) all fitting
+      adds_left sums (multiple_at g kept i) (rest_of g col kept (i + 1)) (rest_of f col added k) all fitting
       (rest_above_next g col kept i kept_rising in_kept)
       (rest_above (term_at kept i).0 f col added k added_rising in_added below)
       fit
       (rw (rest_take g col kept i in_kept other) at is)
 
-  pub right_step : (term_at added k).0 ≢ col → (term_at added k).0 < (term_at kept i).0 → fits (scaled_at f added k).1 ≡ true → Remains g f col kept added (sums ++ scaled_at f added k ∷ []) all fitting i (k + 1)
+  pub right_step : (term_at added k).0 ≢ col → (term_at added k).0 < (term_at kept i).0 → fits (multiple_at f added k).1 ≡ true → Remains g f col kept added (sums ++ multiple_at f added k ∷ []) all fitting i (k + 1)
   right_step other below fit =
-      adds_right sums (scaled_at f added k) (rest_of g col kept i) (rest_of f col added (k + 1)) all fitting
+      adds_right sums (multiple_at f added k) (rest_of g col kept i) (rest_of f col added (k + 1)) all fitting
       (rest_above (term_at added k).0 g col kept i kept_rising in_kept below)
       (rest_above_next f col added k added_rising in_added)
       fit
       (rw (rest_take f col added k in_added other) at is)
 
-  pub right_unfit : (term_at added k).0 ≢ col → fits (scaled_at f added k).1 ≡ false → fitting ≡ false
+  pub right_unfit : (term_at added k).0 ≢ col → fits (multiple_at f added k).1 ≡ false → fitting ≡ false
   right_unfit other unfit =
-      unfit_right sums (scaled_at f added k) (rest_of g col kept i) (rest_of f col added (k + 1)) all fitting unfit
+      unfit_right sums (multiple_at f added k) (rest_of g col kept i) (rest_of f col added (k + 1)) all fitting unfit
       (rw (rest_take f col added k in_added other) at is)
 
-  pub both_step : (term_at kept i).0 ≢ col → (term_at kept i).0 ≡ (term_at added k).0 → sum_fits (scaled_at g kept i).1 (scaled_at f added k).1 ≡ true → Remains g f col kept added (sums ++ unless_zero ((term_at kept i).0, (scaled_at g kept i).1 +ℤ (scaled_at f added k).1) []) all fitting (i + 1) (k + 1)
+  pub both_step : (term_at kept i).0 ≢ col → (term_at kept i).0 ≡ (term_at added k).0 → sum_fits (multiple_at g kept i).1 (multiple_at f added k).1 ≡ true → Remains g f col kept added (sums ++ unless_zero ((term_at kept i).0, (multiple_at g kept i).1 +ℤ (multiple_at f added k).1) []) all fitting (i + 1) (k + 1)
   both_step other same fit =
-      adds_both sums (scaled_at g kept i) (scaled_at f added k) (rest_of g col kept (i + 1)) (rest_of f col added (k + 1)) all fitting same
+      adds_both sums (multiple_at g kept i) (multiple_at f added k) (rest_of g col kept (i + 1)) (rest_of f col added (k + 1)) all fitting same
       (rw same at (rest_above_next g col kept i kept_rising in_kept))
       (rest_above_next f col added k added_rising in_added)
       fit
       (rw (rest_take g col kept i in_kept other, rest_take f col added k in_added (λ e. other (same ∙ e))) at is)
 
-  pub both_unfit : (term_at kept i).0 ≢ col → (term_at kept i).0 ≡ (term_at added k).0 → sum_fits (scaled_at g kept i).1 (scaled_at f added k).1 ≡ false → fitting ≡ false
+  pub both_unfit : (term_at kept i).0 ≢ col → (term_at kept i).0 ≡ (term_at added k).0 → sum_fits (multiple_at g kept i).1 (multiple_at f added k).1 ≡ false → fitting ≡ false
   both_unfit other same unfit =
-      unfit_both sums (scaled_at g kept i) (scaled_at f added k) (rest_of g col kept (i + 1)) (rest_of f col added (k + 1)) all fitting same
+      unfit_both sums (multiple_at g kept i) (multiple_at f added k) (rest_of g col kept (i + 1)) (rest_of f col added (k + 1)) all fitting same
       (rw same at (rest_above_next g col kept i kept_rising in_kept))
       (rest_above_next f col added k added_rising in_added)
       unfit

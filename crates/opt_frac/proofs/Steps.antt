@@ -9,8 +9,8 @@ use Rattle.opt_sums.proofs.Ring.{mul_add, neg_mul, mul_sub, mul_assoc}
 use Rattle.opt_sums.proofs.EntryLemmas.{weighted_sum-one, one_same, one_other}
 use Rattle.opt_frac.specs.Divisors.{gcd}
 use Rattle.opt_frac.specs.Equations.{Equation, lowest, divisor_of}
-use Rattle.opt_frac.specs.Elimination.{without, scaled, summed, whole, negated_if, turned, eliminated}
-use Rattle.opt_frac.proofs.TermSums.{weighted_sum-summed, weighted_sum-scaled, weighted_sum-negated, weighted_sum-without, weighted_sum-whole}
+use Rattle.opt_frac.specs.Elimination.{without, multiple, merged_sum, whole, negated_if, solution_for, elimination}
+use Rattle.opt_frac.proofs.TermSums.{weighted_sum-merged_sum, weighted_sum-multiple, weighted_sum-negated, weighted_sum-without, weighted_sum-whole}
 use Rattle.opt_frac.proofs.Divisions.{IsQuotient, lowest-is, gcd-is, divisor_positive, exact, quotient_positive}
 
 -- how far the values are from meeting the equation
@@ -53,9 +53,9 @@ pub record IsTurned (col : ℕ) (old new : Equation) : Type 0 where
 pub coef-whole : (e : Equation) (k : ℕ) → k ≢ e.basic → coef (whole e) k ≡ coef e.terms k
 coef-whole e k h = sym (weighted_sum-unit (whole e) k) ∙ weighted_sum-whole e (unit k) ∙ gap-unit e k h
 
-pub turned-is : (col : ℕ) (e : Equation) → col ≢ e.basic → coef e.terms col ≢ pos 0 → IsTurned col e (turned col e)
-unfolding turned
-turned-is col e apart h =
+pub solution_for-is : (col : ℕ) (e : Equation) → col ≢ e.basic → coef e.terms col ≢ pos 0 → IsTurned col e (solution_for col e)
+unfolding solution_for
+solution_for-is col e apart h =
     record {
       basic = refl;
       lead = refl;
@@ -132,15 +132,15 @@ sum_equation by e g h =
     record {
       basic = e.basic;
       lead = e.lead *ℤ g;
-      terms = summed (scaled g (without by.basic e.terms)) (scaled h by.terms);
+      terms = merged_sum (multiple g (without by.basic e.terms)) (multiple h by.terms);
     }
 
 gap-sum_equation : (by e : Equation) (w g h : ℤ) (f : ℕ → ℤ) → w *ℤ g ≡ by.lead → w *ℤ h ≡ coef e.terms by.basic → w *ℤ gap (sum_equation by e g h) f ≡ (by.lead *ℤ gap e f) +ℤ (coef e.terms by.basic *ℤ gap by f)
 gap-sum_equation by e w g h f p q =
-    let kept : weighted_sum (scaled g (without by.basic e.terms)) f ≡ g *ℤ weighted_sum (without by.basic e.terms) f = weighted_sum-scaled g (without by.basic e.terms) f in
-    let added : weighted_sum (scaled h by.terms) f ≡ h *ℤ weighted_sum by.terms f = weighted_sum-scaled h by.terms f in
-    let both : weighted_sum (summed (scaled g (without by.basic e.terms)) (scaled h by.terms)) f ≡ (g *ℤ weighted_sum (without by.basic e.terms) f) +ℤ (h *ℤ weighted_sum by.terms f) =
-    weighted_sum-summed (scaled g (without by.basic e.terms)) (scaled h by.terms) f ∙ ap (λ n. n +ℤ weighted_sum (scaled h by.terms) f) kept ∙ ap (λ n. (g *ℤ weighted_sum (without by.basic e.terms) f) +ℤ n) added in
+    let kept : weighted_sum (multiple g (without by.basic e.terms)) f ≡ g *ℤ weighted_sum (without by.basic e.terms) f = weighted_sum-multiple g (without by.basic e.terms) f in
+    let added : weighted_sum (multiple h by.terms) f ≡ h *ℤ weighted_sum by.terms f = weighted_sum-multiple h by.terms f in
+    let both : weighted_sum (merged_sum (multiple g (without by.basic e.terms)) (multiple h by.terms)) f ≡ (g *ℤ weighted_sum (without by.basic e.terms) f) +ℤ (h *ℤ weighted_sum by.terms f) =
+    weighted_sum-merged_sum (multiple g (without by.basic e.terms)) (multiple h by.terms) f ∙ ap (λ n. n +ℤ weighted_sum (multiple h by.terms) f) kept ∙ ap (λ n. (g *ℤ weighted_sum (without by.basic e.terms) f) +ℤ n) added in
     ap (λ n. w *ℤ (n -ℤ ((e.lead *ℤ g) *ℤ f e.basic))) both
     ∙ combination w g h by.lead (coef e.terms by.basic) (weighted_sum (without by.basic e.terms) f) (weighted_sum by.terms f) (weighted_sum e.terms f) e.lead (f e.basic) (f by.basic) p q (weighted_sum-without by.basic e.terms f)
 
@@ -177,11 +177,11 @@ pub record IsEliminated (by old new : Equation) : Type 0 where
   pub g_positive : pos 1 ≤ℤ g
   pub own : pos w *ℤ g ≡ by.lead
   pub other : pos w *ℤ h ≡ coef old.terms by.basic
-  pub result : new ≡ lowest (record { basic = old.basic; lead = old.lead *ℤ g; terms = summed (scaled g (without by.basic old.terms)) (scaled h by.terms) })
+  pub result : new ≡ lowest (record { basic = old.basic; lead = old.lead *ℤ g; terms = merged_sum (multiple g (without by.basic old.terms)) (multiple h by.terms) })
 
-pub eliminated-is : (by old new : Equation) → pos 1 ≤ℤ by.lead → eliminated by old ≡ Some new → IsEliminated by old new
-unfolding eliminated
-eliminated-is by old new lead h =
+pub elimination-is : (by old new : Equation) → pos 1 ≤ℤ by.lead → elimination by old ≡ Some new → IsEliminated by old new
+unfolding elimination
+elimination-is by old new lead h =
     let divides : IsGcd (unsigned_abs by.lead) (unsigned_abs (coef old.terms by.basic)) (common by old) = gcd-is (unsigned_abs by.lead) (unsigned_abs (coef old.terms by.basic)) in
     let own_is : pos (common by old) *ℤ own_factor by old ≡ by.lead = exact by.lead (common by old) divides.0 in
     record {
@@ -195,9 +195,9 @@ eliminated-is by old new lead h =
       result = sym (some_of _ (lowest (sum_equation by old (own_factor by old) (other_factor by old))) new h);
     }
 
-pub replaced-is : (by old new : Equation) → pos 1 ≤ℤ by.lead → pos 1 ≤ℤ old.lead → eliminated by old ≡ Some new → IsReplaced by old new
-replaced-is by old new lead old_lead h =
-    let how : IsEliminated by old new = eliminated-is by old new lead h in
+pub replacement-is : (by old new : Equation) → pos 1 ≤ℤ by.lead → pos 1 ≤ℤ old.lead → elimination by old ≡ Some new → IsReplaced by old new
+replacement-is by old new lead old_lead h =
+    let how : IsEliminated by old new = elimination-is by old new lead h in
     let whole_lead : pos 1 ≤ℤ (old.lead *ℤ how.g) = product_positive old.lead how.g old_lead how.g_positive in
     let quotient : IsQuotient (divisor_of (sum_equation by old how.g how.h)) (sum_equation by old how.g how.h) (lowest (sum_equation by old how.g how.h)) = lowest-is (sum_equation by old how.g how.h) whole_lead in
     let is_quotient : IsQuotient (divisor_of (sum_equation by old how.g how.h)) (sum_equation by old how.g how.h) new = same_quotient (divisor_of (sum_equation by old how.g how.h)) (sum_equation by old how.g how.h) (lowest (sum_equation by old how.g how.h)) new how.result quotient in

@@ -5,7 +5,7 @@ use Rattle.std.proofs.lemmas.Bool.{lt-ltb, le-ltb, eq-eqb, ne_eqb, cases_order, 
 use Rattle.opt_sums.specs.Entries.{coef, weighted_sum}
 use Rattle.opt_sums.proofs.Ring.{mul_add, add_mul, neg_mul, mul_assoc}
 use Rattle.opt_frac.specs.Equations.{Equation}
-use Rattle.opt_frac.specs.Elimination.{without, scaled, unless_zero, more, summed, whole, negated_if}
+use Rattle.opt_frac.specs.Elimination.{without, multiple, unless_zero, more, merged_sum, whole, negated_if}
 
 -- ---- one entry added
 pub more_before : (a e : ℕ × ℤ) (es : List (ℕ × ℤ)) → a.0 < e.0 → more a (e ∷ es) ≡ a ∷ e ∷ es
@@ -49,14 +49,14 @@ weighted_sum-more a (e ∷ es) f =
     ]
 
 -- ---- lists added, scaled, negated and shortened
-pub weighted_sum-summed : (es ds : List (ℕ × ℤ)) (f : ℕ → ℤ) → weighted_sum (summed es ds) f ≡ weighted_sum es f +ℤ weighted_sum ds f
-weighted_sum-summed [] ds f = omega (arith, ints)
-weighted_sum-summed (e ∷ es) ds f = omega (arith, ints, weighted_sum-more e (summed es ds) f, weighted_sum-summed es ds f)
+pub weighted_sum-merged_sum : (es ds : List (ℕ × ℤ)) (f : ℕ → ℤ) → weighted_sum (merged_sum es ds) f ≡ weighted_sum es f +ℤ weighted_sum ds f
+weighted_sum-merged_sum [] ds f = omega (arith, ints)
+weighted_sum-merged_sum (e ∷ es) ds f = omega (arith, ints, weighted_sum-more e (merged_sum es ds) f, weighted_sum-merged_sum es ds f)
 
-pub weighted_sum-scaled : (g : ℤ) (es : List (ℕ × ℤ)) (f : ℕ → ℤ) → weighted_sum (scaled g es) f ≡ g *ℤ weighted_sum es f
-weighted_sum-scaled g [] f = omega (arith, ints)
-weighted_sum-scaled g (e ∷ es) f =
-    omega (arith, ints, weighted_sum-scaled g es f, mul_assoc g e.1 (f e.0), mul_add g (e.1 *ℤ f e.0) (weighted_sum es f))
+pub weighted_sum-multiple : (g : ℤ) (es : List (ℕ × ℤ)) (f : ℕ → ℤ) → weighted_sum (multiple g es) f ≡ g *ℤ weighted_sum es f
+weighted_sum-multiple g [] f = omega (arith, ints)
+weighted_sum-multiple g (e ∷ es) f =
+    omega (arith, ints, weighted_sum-multiple g es f, mul_assoc g e.1 (f e.0), mul_add g (e.1 *ℤ f e.0) (weighted_sum es f))
 
 pub weighted_sum-negated : (es : List (ℕ × ℤ)) (f : ℕ → ℤ) → weighted_sum (negated_if true es) f ≡ neg_ℤ (weighted_sum es f)
 weighted_sum-negated [] f = refl

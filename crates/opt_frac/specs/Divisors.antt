@@ -17,8 +17,8 @@ gcd_with a [] = a
 gcd_with a (e ∷ es) = gcd_with (gcd a (unsigned_abs e.1)) es
 
 -- each coefficient divided by d
-abbrev pub divided : ℕ → List (ℕ × ℤ) → List (ℕ × ℤ)
-divided d es = map (λ e. (e.0, int_div e.1 (pos d))) es
+abbrev pub quotients : ℕ → List (ℕ × ℤ) → List (ℕ × ℤ)
+quotients d es = map (λ e. (e.0, int_div e.1 (pos d))) es
 
 -- the number lies from -(2^127 - 1) to 2^127 - 1
 abbrev pub Fits : ℤ → Type 0

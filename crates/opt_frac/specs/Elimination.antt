@@ -10,8 +10,8 @@ abbrev pub without : ℕ → List (ℕ × ℤ) → List (ℕ × ℤ)
 without k es = filter (λ e. not (e.0 == k)) es
 
 -- each coefficient times g
-abbrev pub scaled : ℤ → List (ℕ × ℤ) → List (ℕ × ℤ)
-scaled g es = map (λ e. (e.0, g *ℤ e.1)) es
+abbrev pub multiple : ℤ → List (ℕ × ℤ) → List (ℕ × ℤ)
+multiple g es = map (λ e. (e.0, g *ℤ e.1)) es
 
 -- the entry in front, unless its coefficient is 0
 abbrev pub unless_zero : ℕ × ℤ → List (ℕ × ℤ) → List (ℕ × ℤ)
@@ -28,9 +28,9 @@ more a (e ∷ es) =
     else unless_zero (e.0, a.1 +ℤ e.1) es
 
 -- two lists of rising entries added, number by number; sums of 0 are dropped
-abbrev pub summed : List (ℕ × ℤ) → List (ℕ × ℤ) → List (ℕ × ℤ)
-summed [] ds = ds
-summed (e ∷ es) ds = more e (summed es ds)
+abbrev pub merged_sum : List (ℕ × ℤ) → List (ℕ × ℤ) → List (ℕ × ℤ)
+merged_sum [] ds = ds
+merged_sum (e ∷ es) ds = more e (merged_sum es ds)
 
 -- the equation as one sum that is 0: its terms, and its lead with the sign changed
 abbrev pub whole : Equation → List (ℕ × ℤ)
@@ -41,8 +41,8 @@ abbrev pub negated_if : Bool → List (ℕ × ℤ) → List (ℕ × ℤ)
 negated_if negative es = if negative then map (λ e. (e.0, neg_ℤ e.1)) es else es
 
 -- the same equation solved for the variable col, at which it has a term
-unfoldable pub turned : ℕ → Equation → Equation
-turned col e =
+unfoldable pub solution_for : ℕ → Equation → Equation
+solution_for col e =
     record {
       basic = col;
       lead = pos (unsigned_abs (coef e.terms col));
@@ -52,18 +52,18 @@ turned col e =
 -- the equation with these terms, in lowest terms, where each part and each sum fits
 abbrev pub summed_equation : ℕ → ℤ → List (ℕ × ℤ) → List (ℕ × ℤ) → Option Equation
 summed_equation basic lead kept added =
-    if fits lead && all_fit kept && all_fit added && all_fit (summed kept added)
-    then Some (lowest (record { basic = basic; lead = lead; terms = summed kept added }))
+    if fits lead && all_fit kept && all_fit added && all_fit (merged_sum kept added)
+    then Some (lowest (record { basic = basic; lead = lead; terms = merged_sum kept added }))
     else None
 
 -- the equation with the variable col replaced: it is taken g times, and the terms that stand for col f times
-abbrev pub replaced : ℤ → ℤ → ℕ → List (ℕ × ℤ) → Equation → Option Equation
-replaced g f col terms e =
-    summed_equation e.basic (e.lead *ℤ g) (scaled g (without col e.terms)) (scaled f terms)
+abbrev pub replacement : ℤ → ℤ → ℕ → List (ℕ × ℤ) → Equation → Option Equation
+replacement g f col terms e =
+    summed_equation e.basic (e.lead *ℤ g) (multiple g (without col e.terms)) (multiple f terms)
 
 -- the equation with the basic variable of another one, at which it has a term, replaced by what that one says of it:
 -- in lowest terms, or None where a product or a sum does not fit
-unfoldable pub eliminated : Equation → Equation → Option Equation
-eliminated by e =
+unfoldable pub elimination : Equation → Equation → Option Equation
+elimination by e =
     let w : ℕ = gcd (unsigned_abs by.lead) (unsigned_abs (coef e.terms by.basic)) in
-    replaced (int_div by.lead (pos w)) (int_div (coef e.terms by.basic) (pos w)) by.basic by.terms e
+    replacement (int_div by.lead (pos w)) (int_div (coef e.terms by.basic) (pos w)) by.basic by.terms e

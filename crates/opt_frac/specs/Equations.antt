@@ -4,7 +4,7 @@ use Rattle.std.specs.Ordering.{int_cmp}
 use Rattle.std.specs.declared.cmp.Ordering.{Ordering}
 use Rattle.opt_sums.specs.Sums.{at}
 use Rattle.opt_sums.specs.Entries.{coef, dot, IsRising, HasNoZero}
-use Rattle.opt_frac.specs.Divisors.{gcd_with, divided, Fits}
+use Rattle.opt_frac.specs.Divisors.{gcd_with, quotients, Fits}
 
 -- lead times the basic variable is the sum of coefficient times variable over the terms
 pub record Equation : Type 0 where
@@ -59,12 +59,12 @@ pub record IsReduced (e : Equation) : Type 0 where
 
 -- the equation divided by a number that divides all of it
 abbrev pub divided_by : ℕ → Equation → Equation
-divided_by d e = record { basic = e.basic; lead = int_div e.lead (pos d); terms = divided d e.terms }
+divided_by d e = record { basic = e.basic; lead = int_div e.lead (pos d); terms = quotients d e.terms }
 
 -- the equation in lowest terms
 unfoldable pub lowest : Equation → Equation
 lowest e = divided_by (divisor_of e) e
 
 -- how a/b stands to c/d, where b and d are above 0
-abbrev pub compared : ℤ → ℤ → ℤ → ℤ → Ordering
-compared a b c d = int_cmp (a *ℤ d) (c *ℤ b)
+abbrev pub comparison : ℤ → ℤ → ℤ → ℤ → Ordering
+comparison a b c d = int_cmp (a *ℤ d) (c *ℤ b)

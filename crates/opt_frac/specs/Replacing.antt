@@ -5,7 +5,7 @@ use Rattle.opt_frac.specs.declared.elim_fault.ElimFault.TheVariants.{Wide, OutOf
 use Rattle.opt_sums.specs.Entries.{coef}
 use Rattle.opt_frac.specs.Divisors.{fits, gcd}
 use Rattle.opt_frac.specs.Equations.{Equation, equation_of, IsReduced, SameValuesWhere}
-use Rattle.opt_frac.specs.Elimination.{scaled, without}
+use Rattle.opt_frac.specs.Elimination.{multiple, without}
 
 -- how often the equation is taken, so that the other one's basic variable falls out
 abbrev pub own_factor : Equation → Equation → ℤ
@@ -23,10 +23,10 @@ IsProduct (Err OutOfMemory) product = Unit {0}
 
 -- the terms of an equation and of the one that replaces a variable in it, as often as they are taken
 abbrev pub own_terms : Equation → Equation → List (ℕ × ℤ)
-own_terms by e = scaled (own_factor by e) (without by.basic e.terms)
+own_terms by e = multiple (own_factor by e) (without by.basic e.terms)
 
 abbrev pub other_terms : Equation → Equation → List (ℕ × ℤ)
-other_terms by e = scaled (other_factor by e) by.terms
+other_terms by e = multiple (other_factor by e) by.terms
 
 -- the answer is the equation, or Wide where there is none, unless memory ran out
 abbrev pub Replaces : Result Equation ElimFault → Option Equation → Type 0

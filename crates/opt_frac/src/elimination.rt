@@ -1,6 +1,6 @@
 ghost use Rattle.std.specs.Prelude.{◌≡◌, ◌≢◌, ◌≤◌, ◌≤ℤ◌, pos, unsigned_abs, int_div};
 ghost use Rattle.opt_sums.specs.Entries.{IsRising, coef};
-ghost use Rattle.opt_frac.specs.Divisors.{Fits, divided, gcd as gcd_of, gcd_with};
+ghost use Rattle.opt_frac.specs.Divisors.{Fits, quotients, gcd as gcd_of, gcd_with};
 
 use crate::divisor::{common_divisor, gcd};
 
@@ -53,7 +53,7 @@ pub fn reduce(lead: i128, terms: &mut Vec<(u32, i128)>) -> i128
     requires positive { pos 1 ≤ℤ lead }
     requires fitting { Fits lead }
     ensures lead { result ≡ int_div lead (pos (gcd_with (unsigned_abs lead) terms.old.items)) }
-    ensures terms { terms.new.items ≡ divided (gcd_with (unsigned_abs lead) terms.old.items) terms.old.items }
+    ensures terms { terms.new.items ≡ quotients (gcd_with (unsigned_abs lead) terms.old.items) terms.old.items }
 {
     let divisor = common_divisor(lead.unsigned_abs(), terms);
     if divisor > 1 {
@@ -66,7 +66,7 @@ pub fn reduce(lead: i128, terms: &mut Vec<(u32, i128)>) -> i128
 fn divide(terms: &mut [(u32, i128)], divisor: u128)
     requires positive { 1 ≤ divisor }
     requires fitting { Fits (pos divisor) }
-    ensures { terms.new ≡ divided divisor terms.old }
+    ensures { terms.new ≡ quotients divisor terms.old }
 {
     for i in 0..terms.len() {
         let term = terms[i];

@@ -1,13 +1,13 @@
 ghost use Rattle.std.specs.Prelude.{◌≡◌, ◌≢◌, ◌↔◌, [], ◌*ℤ◌, ◌≤ℤ◌, pos, IfOk, IsTrue, OnErr, OnOk};
 ghost use Rattle.opt_sums.specs.Entries.{coef};
 ghost use Rattle.opt_frac.specs.Equations.{HasTerm, IsReduced, equation_of};
-ghost use Rattle.opt_frac.specs.Elimination.{eliminated, negated_if, summed, whole, without};
+ghost use Rattle.opt_frac.specs.Elimination.{elimination as elimination_of, negated_if, merged_sum, whole, without};
 ghost use Rattle.opt_frac.specs.Merging.{Writes, sums_fit};
 ghost use Rattle.opt_frac.specs.Replacing.{IsMade, IsProduct, ReplacesBy, other_factor, other_terms, own_factor, own_terms};
 
 use crate::elim_fault::ElimFault;
 use crate::elimination::{Factors, coefficient, least_factors, reduce};
-use crate::merging::{Scaled, add_scaled};
+use crate::merging::{Multiple, add_multiples};
 use crate::number::product;
 use crate::solved::is_solved;
 use crate::turning::{negate_if, place_of, push_signed};
@@ -40,7 +40,7 @@ impl Model for Equation {
 
 impl Equation {
     ghost use Rattle.opt_frac.specs.Equations.{IsSolved, SameValues, SameValuesWhere, lowest};
-    ghost use Rattle.opt_frac.specs.Elimination.{turned as turned_of};
+    ghost use Rattle.opt_frac.specs.Elimination.{solution_for};
     ghost use Rattle.opt_frac.specs.Replacing.{Replaces, ReplacesIn};
 
     /// Whether an equation may be made of this basic variable, lead and terms: the lead is at least 1, the terms go
@@ -115,7 +115,7 @@ impl Equation {
     /// The same equation solved for the variable `col`, at which it has a term.
     pub fn turn(&self, alloc: Global, col: u32) -> Result<Equation, OutOfMemory>
         requires { HasTerm self.now col }
-        ensures turned { IfOk result (λ equation. equation ≡ turned_of col self.now) }
+        ensures turned { IfOk result (λ equation. equation ≡ solution_for col self.now) }
         ensures same_values { IfOk result (SameValues self.now) }
     {
         let pivot = self.coefficient(col);
@@ -136,7 +136,7 @@ impl Equation {
         requires other { self.now.basic ≢ turned.now.basic }
         requires term { HasTerm self.now turned.now.basic }
         requires apart { coef turned.now.terms self.now.basic ≡ pos 0 }
-        ensures replaced { Replaces result (eliminated turned.now self.now) }
+        ensures replaced { Replaces result (elimination_of turned.now self.now) }
         ensures same_values { IfOk result (SameValuesWhere turned.now self.now) }
     {
         let mut terms = Vec::new(alloc);
@@ -159,7 +159,7 @@ impl Equation {
         requires other { self.old.basic ≢ turned.now.basic }
         requires term { HasTerm self.old turned.now.basic }
         requires apart { coef turned.now.terms self.old.basic ≡ pos 0 }
-        ensures replaced { ReplacesIn result self.new (eliminated turned.now self.old) }
+        ensures replaced { ReplacesIn result self.new (elimination_of turned.now self.old) }
         ensures lent { OnOk result (buffer.new.items ≡ self.old.terms) }
         ensures unchanged { OnErr result (self.new ≡ self.old) }
     {
@@ -217,18 +217,18 @@ fn add_terms(
 ) -> Result<(), ElimFault>
     ensures { let own = own_terms turned.now old.now in
         let other = other_terms turned.now old.now in
-        Writes result [] terms.new.items (sums_fit own other) (summed own other) }
+        Writes result [] terms.new.items (sums_fit own other) (merged_sum own other) }
 {
     let factors = factors_for(old, turned);
-    let kept = Scaled {
+    let kept = Multiple {
         terms: old.terms(),
         factor: factors.own,
     };
-    let added = Scaled {
+    let added = Multiple {
         terms: turned.terms(),
         factor: factors.other,
     };
-    add_scaled(terms, turned.basic(), kept, added)
+    add_multiples(terms, turned.basic(), kept, added)
 }
 
 /// Writes the terms of the equation with the turned one's variable replaced into the buffer, and gives its lead.
@@ -239,7 +239,7 @@ fn replace(
 ) -> Result<i128, ElimFault>
     requires term { HasTerm old.now turned.now.basic }
     requires apart { coef turned.now.terms old.now.basic ≡ pos 0 }
-    ensures replaced { ReplacesBy result old.now.basic terms.new.items (eliminated turned.now old.now) }
+    ensures replaced { ReplacesBy result old.now.basic terms.new.items (elimination_of turned.now old.now) }
     ensures made { IfOk result (λ lead. IsMade turned.now old.now (equation_of old.now.basic lead terms.new.items)) }
 {
     let lead = scaled_lead(old, factors_for(old, turned))?;

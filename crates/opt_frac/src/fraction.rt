@@ -1,6 +1,6 @@
 ghost use Rattle.std.specs.Prelude.{◌≡◌, ◌*◌, ◌<◌, ◌≤◌, pos, ◌≤ℤ◌};
 ghost use Rattle.std.specs.Ordering.{nat_cmp};
-ghost use Rattle.opt_frac.specs.Equations.{compared};
+ghost use Rattle.opt_frac.specs.Equations.{comparison};
 
 use std::cmp::Ordering;
 
@@ -8,7 +8,7 @@ use std::cmp::Ordering;
 pub fn compare(a: i128, b: i128, c: i128, d: i128) -> Ordering
     requires first { pos 1 ≤ℤ b }
     requires second { pos 1 ≤ℤ d }
-    ensures { result ≡ compared a b c d }
+    ensures { result ≡ comparison a b c d }
 {
     match (a < 0, c < 0) {
         (false, false) => compare_products(

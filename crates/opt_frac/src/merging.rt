@@ -2,32 +2,32 @@ ghost use Rattle.std.specs.Prelude.{[], ◌∷◌, ◌<◌, ◌≢◌, All, leng
 ghost use Rattle.std.specs.Option.{SomeIff};
 ghost use Rattle.opt_sums.specs.Entries.{IsRising};
 ghost use Rattle.opt_frac.specs.Divisors.{Fits, fits, all_fit};
-ghost use Rattle.opt_frac.specs.Elimination.{summed, unless_zero};
-ghost use Rattle.opt_frac.specs.Merging.{IsSum, Writes, rest_of, scaled_at, sum_fits, sums_fit};
+ghost use Rattle.opt_frac.specs.Elimination.{merged_sum, unless_zero};
+ghost use Rattle.opt_frac.specs.Merging.{IsSum, Writes, rest_of, multiple_at, sum_fits, sums_fit};
 
 use crate::elim_fault::ElimFault;
 use crate::number::{product, sum};
 
 /// Terms with a factor by which each coefficient is taken.
 #[derive(Clone, Copy)]
-pub struct Scaled<'a> {
+pub struct Multiple<'a> {
     pub terms: &'a [(u32, i128)],
     pub factor: i128,
 }
 
-/// Writes the sum of both scaled lists, the first without its terms at `col`, into the buffer. The second has none there.
-pub fn add_scaled(
+/// Writes the sum of both multiples, the first without its terms at `col`, into the buffer. The second has none there.
+pub fn add_multiples(
     sums: &mut Vec<(u32, i128)>,
     col: u32,
-    kept: Scaled<'_>,
-    added: Scaled<'_>,
+    kept: Multiple<'_>,
+    added: Multiple<'_>,
 ) -> Result<(), ElimFault>
     requires kept_rising { IsRising kept.terms.now }
     requires added_rising { IsRising added.terms.now }
     requires apart { All (λ term. term.0 ≢ col) added.terms.now }
     ensures { let first = rest_of kept.entry.factor col kept.entry.terms.now 0 in
         let second = rest_of added.entry.factor col added.entry.terms.now 0 in
-        Writes result [] sums.new.items (sums_fit first second) (summed first second) }
+        Writes result [] sums.new.items (sums_fit first second) (merged_sum first second) }
 {
     sums.clear();
     let mut i = 0;
@@ -54,31 +54,31 @@ pub fn add_scaled(
 }
 
 /// The coefficient of term `i` times its factor.
-fn product_at(scaled: Scaled<'_>, i: usize) -> Option<i128>
-    requires { i < length scaled.terms.now }
-    ensures { let coefficient = (scaled_at scaled.entry.factor scaled.entry.terms.now i).1 in
+fn product_at(multiple: Multiple<'_>, i: usize) -> Option<i128>
+    requires { i < length multiple.terms.now }
+    ensures { let coefficient = (multiple_at multiple.entry.factor multiple.entry.terms.now i).1 in
         SomeIff result (Fits coefficient) coefficient }
 {
-    product(scaled.factor, scaled.terms[i].1)
+    product(multiple.factor, multiple.terms[i].1)
 }
 
 /// Pushes term `i` times its factor.
-fn push_term(sums: &mut Vec<(u32, i128)>, scaled: Scaled<'_>, i: usize) -> Result<(), ElimFault>
-    requires { i < length scaled.terms.now }
-    ensures { let term = scaled_at scaled.entry.factor scaled.entry.terms.now i in
+fn push_term(sums: &mut Vec<(u32, i128)>, multiple: Multiple<'_>, i: usize) -> Result<(), ElimFault>
+    requires { i < length multiple.terms.now }
+    ensures { let term = multiple_at multiple.entry.factor multiple.entry.terms.now i in
         Writes result sums.old.items sums.new.items (fits term.1) (term ∷ []) }
 {
-    let coefficient = product_at(scaled, i).ok_or(ElimFault::Wide)?;
-    sums.push((scaled.terms[i].0, coefficient))?;
+    let coefficient = product_at(multiple, i).ok_or(ElimFault::Wide)?;
+    sums.push((multiple.terms[i].0, coefficient))?;
     Ok(())
 }
 
 /// The sum of term `i` of the one list and term `k` of the other, each times its factor.
-fn sum_at(kept: Scaled<'_>, i: usize, added: Scaled<'_>, k: usize) -> Option<i128>
+fn sum_at(kept: Multiple<'_>, i: usize, added: Multiple<'_>, k: usize) -> Option<i128>
     requires in_kept { i < length kept.terms.now }
     requires in_added { k < length added.terms.now }
-    ensures { let first = (scaled_at kept.entry.factor kept.entry.terms.now i).1 in
-        let second = (scaled_at added.entry.factor added.entry.terms.now k).1 in
+    ensures { let first = (multiple_at kept.entry.factor kept.entry.terms.now i).1 in
+        let second = (multiple_at added.entry.factor added.entry.terms.now k).1 in
         IsSum result first second }
 {
     let first = product_at(kept, i)?;
@@ -89,15 +89,15 @@ fn sum_at(kept: Scaled<'_>, i: usize, added: Scaled<'_>, k: usize) -> Option<i12
 /// Pushes the sum of term `i` of the one list and term `k` of the other, each times its factor, unless it is 0.
 fn push_sum(
     sums: &mut Vec<(u32, i128)>,
-    kept: Scaled<'_>,
+    kept: Multiple<'_>,
     i: usize,
-    added: Scaled<'_>,
+    added: Multiple<'_>,
     k: usize,
 ) -> Result<(), ElimFault>
     requires in_kept { i < length kept.terms.now }
     requires in_added { k < length added.terms.now }
-    ensures { let first = scaled_at kept.entry.factor kept.entry.terms.now i in
-        let second = scaled_at added.entry.factor added.entry.terms.now k in
+    ensures { let first = multiple_at kept.entry.factor kept.entry.terms.now i in
+        let second = multiple_at added.entry.factor added.entry.terms.now k in
         Writes result sums.old.items sums.new.items (sum_fits first.1 second.1) (unless_zero (first.0, first.1 +ℤ second.1) []) }
 {
     let coefficient = sum_at(kept, i, added, k).ok_or(ElimFault::Wide)?;
@@ -111,15 +111,15 @@ fn push_sum(
 fn push_rest(
     sums: &mut Vec<(u32, i128)>,
     col: u32,
-    scaled: Scaled<'_>,
+    multiple: Multiple<'_>,
     from: usize,
 ) -> Result<(), ElimFault>
-    ensures { let rest = rest_of scaled.entry.factor col scaled.entry.terms.now from in
+    ensures { let rest = rest_of multiple.entry.factor col multiple.entry.terms.now from in
         Writes result sums.old.items sums.new.items (all_fit rest) rest }
 {
-    for i in from..scaled.terms.len() {
-        if scaled.terms[i].0 != col {
-            push_term(sums, scaled, i)?;
+    for i in from..multiple.terms.len() {
+        if multiple.terms[i].0 != col {
+            push_term(sums, multiple, i)?;
         }
     }
     Ok(())

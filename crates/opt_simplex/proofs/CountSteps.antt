@@ -10,16 +10,16 @@ use Rattle.opt_sums.specs.Entries.{coef, IsRising}
 use Rattle.opt_sums.proofs.EntryLemmas.{one_same, one_other, coef-none}
 use Rattle.opt_sums.proofs.RisingLemmas.{IsRising-head, IsRising-tail}
 use Rattle.opt_frac.specs.Equations.{Equation, IsReduced, equation_of}
-use Rattle.opt_frac.specs.Elimination.{more, without, whole, negated_if, turned, eliminated}
+use Rattle.opt_frac.specs.Elimination.{more, without, whole, negated_if, solution_for, elimination}
 use Rattle.opt_frac.proofs.Shapes.{rising-more}
 use Rattle.opt_frac.proofs.Steps.{coef-whole}
 use Rattle.opt_simplex.specs.declared.end.Why.{Why}
 use Rattle.opt_simplex.specs.declared.end.Why.TheVariants.{Fill}
 use Rattle.opt_simplex.specs.Tableau.{equation_at}
-use Rattle.opt_simplex.specs.Pivot.{Treated, within_fill, replacing, treated}
+use Rattle.opt_simplex.specs.Pivot.{Treatment, within_fill, replacing, treatment}
 
 -- ---- an equation is treated
-filled_same : (e : Equation) (count : ℕ) (r : Treated) → within_fill e count ≡ Ok r → record { equation = e; count = count } ≡ r
+filled_same : (e : Equation) (count : ℕ) (r : Treatment) → within_fill e count ≡ Ok r → record { equation = e; count = count } ≡ r
 filled_same e count r h = by_test (nat_lt (2 ^ 24) count) h
   where
     by_test : (full : Bool) → (if full then Err Fill else Ok (record { equation = e; count = count })) ≡ Ok r
@@ -27,14 +27,14 @@ filled_same e count r h = by_test (nat_lt (2 ^ 24) count) h
     by_test true h = cc
     by_test false h = cc
 
-pub treated-count : (by : Equation) (n : ℕ) (e : Equation) (r : Treated) → treated by n e ≡ Ok r → length e.terms ≤ n
+pub treatment-count : (by : Equation) (n : ℕ) (e : Equation) (r : Treatment) → treatment by n e ≡ Ok r → length e.terms ≤ n
     → r.count + length e.terms ≡ n + length r.equation.terms
-treated-count by n e r h few = by_test (cases_eq (unsigned_abs (coef e.terms by.basic)) 0)
+treatment-count by n e r h few = by_test (cases_eq (unsigned_abs (coef e.terms by.basic)) 0)
   where
     of_parts : (new : Equation) (count : ℕ) → record { equation = new; count = count } ≡ r → count + length e.terms ≡ n + length new.terms
         → r.count + length e.terms ≡ n + length r.equation.terms
     of_parts new count is known =
-        omega (arith, known, ap (λ (t : Treated). t.count) is, ap (λ (t : Treated). length t.equation.terms) is)
+        omega (arith, known, ap (λ (t : Treatment). t.count) is, ap (λ (t : Treatment). length t.equation.terms) is)
 
     by_made : (made : Option Equation) → replacing e n made ≡ Ok r → r.count + length e.terms ≡ n + length r.equation.terms
     by_made None k = cc
@@ -47,7 +47,7 @@ treated-count by n e r h few = by_test (cases_eq (unsigned_abs (coef e.terms by.
         let kept : Ok (record { equation = e; count = n }) ≡ Ok r = rw (eq-eqb (unsigned_abs (coef e.terms by.basic)) 0 z) at h in
         let same : record { equation = e; count = n } ≡ r = cc in
         of_parts e n same refl
-    by_test (inr z) = by_made (eliminated by e) (rw (ne_eqb (unsigned_abs (coef e.terms by.basic)) 0 z) at h)
+    by_test (inr z) = by_made (elimination by e) (rw (ne_eqb (unsigned_abs (coef e.terms by.basic)) 0 z) at h)
 
 -- ---- all equations
 pub terms_of_one : (es : List Equation) (p : ℕ) → p < length es → length (equation_at es p).terms ≤ sum_by (λ e. length e.terms) es
@@ -56,7 +56,7 @@ terms_of_one es p inside =
 
 pub counted-more : (by : Equation) (news : List Equation) (p : ℕ) (e new : Equation) (first stored count total : ℕ) → p < length news
     → e ≡ equation_at news p → total ≤ first → stored + total ≡ first + sum_by (λ e. length e.terms) news
-    → treated by stored e ≡ Ok (record { equation = new; count = count })
+    → treatment by stored e ≡ Ok (record { equation = new; count = count })
     → count + total ≡ first + sum_by (λ e. length e.terms) (set news p new)
 counted-more by news p e new first stored count total inside is enough now made =
     let size : length e.terms ≡ length (equation_at news p).terms = ap (λ (d : Equation). length d.terms) is in
@@ -65,7 +65,7 @@ counted-more by news p e new first stored count total inside is enough now made 
       arith,
       size,
       now,
-      treated-count by stored e (record { equation = new; count = count }) made few,
+      treatment-count by stored e (record { equation = new; count = count }) made few,
       sum_by-set (λ (e : Equation). length e.terms) news p new (record { basic = 0; lead = pos 1; terms = [] }) inside,
     )
 
@@ -107,9 +107,9 @@ length-negated_if : (b : Bool) (es : List (ℕ × ℤ)) → length (negated_if b
 length-negated_if true es = length-map es (λ (e : ℕ × ℤ). (e.0, neg_ℤ e.1))
 length-negated_if false es = refl
 
-pub length-turned : (col : ℕ) (e : Equation) → IsReduced e → coef e.terms col ≢ pos 0 → length (turned col e).terms ≡ length e.terms
-unfolding turned
-length-turned col e reduced some =
+pub length-solution_for : (col : ℕ) (e : Equation) → IsReduced e → coef e.terms col ≢ pos 0 → length (solution_for col e).terms ≡ length e.terms
+unfolding solution_for
+length-solution_for col e reduced some =
     let other : e.basic ≢ col = λ same. some (coef-none e.terms col (All-weaker (λ d. d.0 ≢ e.basic) (λ d. d.0 ≢ col) (λ d apart is. apart (is ∙ sym same)) e.terms reduced.solved.apart)) in
     let stays : coef (whole e) col ≢ pos 0 =
     λ none. some (sym (coef-whole e col (λ same. other (sym same))) ∙ none) in
@@ -121,19 +121,19 @@ length-turned col e reduced some =
     )
 
 -- the count after a pivot: the sweep, the cost equation, and the turned one in its place
-pub stored-whole : (first swept_count count p : ℕ) (olds news : List Equation) (by cost new_cost : Equation) → p < length news
+pub stored-whole : (first sweep_count count p : ℕ) (olds news : List Equation) (by cost new_cost : Equation) → p < length news
     → first ≡ sum_by (λ e. length e.terms) olds + length cost.terms
-    → swept_count + sum_by (λ e. length e.terms) olds ≡ first + sum_by (λ e. length e.terms) news
-    → treated by swept_count cost ≡ Ok (record { equation = new_cost; count = count })
+    → sweep_count + sum_by (λ e. length e.terms) olds ≡ first + sum_by (λ e. length e.terms) news
+    → treatment by sweep_count cost ≡ Ok (record { equation = new_cost; count = count })
     → length by.terms ≡ length (equation_at news p).terms
     → count ≡ sum_by (λ e. length e.terms) (set news p by) + length new_cost.terms
-stored-whole first swept_count count p olds news by cost new_cost inside before counted made size =
-    let few : length cost.terms ≤ swept_count = omega (arith, before, counted) in
+stored-whole first sweep_count count p olds news by cost new_cost inside before counted made size =
+    let few : length cost.terms ≤ sweep_count = omega (arith, before, counted) in
     omega (
       arith,
       before,
       counted,
       size,
-      treated-count by swept_count cost (record { equation = new_cost; count = count }) made few,
+      treatment-count by sweep_count cost (record { equation = new_cost; count = count }) made few,
       sum_by-set (λ (e : Equation). length e.terms) news p by (record { basic = 0; lead = pos 1; terms = [] }) inside,
     )

@@ -3,8 +3,8 @@ use Rattle.std.proofs.Common.{◌≡◌, [], ◌∷◌, pos, refl}
 use Rattle.opt_system.specs.Systems.{System}
 use Rattle.opt_frac.specs.Divisors.{gcd}
 use Rattle.opt_frac.specs.Equations.{lowest}
-use Rattle.opt_frac.specs.Elimination.{turned, eliminated}
-use Rattle.opt_simplex.specs.Pivot.{pivoted}
+use Rattle.opt_frac.specs.Elimination.{solution_for, elimination}
+use Rattle.opt_simplex.specs.Pivot.{next_tableau}
 use Rattle.opt_simplex.specs.Rule.{end_of}
 use Rattle.opt_simplex.proofs.ExampleSystems.{system, least, equal, minus, multipliers}
 use Rattle.opt_simplex.specs.declared.end.LpEnd.TheVariants.{Empty}
@@ -19,7 +19,7 @@ system_2 =
     )
 
 end_2 : end_of system_2 system_2.root 20000 ≡ Empty (multipliers (pos 0) ((0, minus 3) ∷ (1, pos 2) ∷ [])) 2
-unfolding system_2 gcd lowest turned eliminated pivoted
+unfolding system_2 gcd lowest solution_for elimination next_tableau
 end_2 = refl
 
 system_8 : System
@@ -36,7 +36,7 @@ system_8 =
     )
 
 end_8 : end_of system_8 system_8.root 20000 ≡ Empty (multipliers (pos 0) ((1, pos 120) ∷ (3, pos 1) ∷ [])) 6
-unfolding system_8 gcd lowest turned eliminated pivoted
+unfolding system_8 gcd lowest solution_for elimination next_tableau
 end_8 = refl
 
 system_12 : System
@@ -50,7 +50,7 @@ system_12 =
     )
 
 end_12 : end_of system_12 system_12.root 20000 ≡ Empty (multipliers (pos 0) ((0, pos 1) ∷ (1, minus 1) ∷ [])) 1
-unfolding system_12 gcd lowest turned eliminated pivoted
+unfolding system_12 gcd lowest solution_for elimination next_tableau
 end_12 = refl
 
 system_17 : System
@@ -69,7 +69,7 @@ system_17 =
 
 end_17 : end_of system_17 system_17.root 20000
     ≡ Empty (multipliers (pos 0) ((0, minus 2163) ∷ (2, pos 107) ∷ (4, pos 2884) ∷ (5, pos 3298) ∷ [])) 5
-unfolding system_17 gcd lowest turned eliminated pivoted
+unfolding system_17 gcd lowest solution_for elimination next_tableau
 end_17 = refl
 
 system_22 : System
@@ -90,7 +90,7 @@ system_22 =
 
 end_22 : end_of system_22 system_22.root 20000
     ≡ Empty (multipliers (pos 0) ((2, pos 50) ∷ (3, minus 257) ∷ (6, pos 7) ∷ [])) 7
-unfolding system_22 gcd lowest turned eliminated pivoted
+unfolding system_22 gcd lowest solution_for elimination next_tableau
 end_22 = refl
 
 system_27 : System
@@ -110,7 +110,7 @@ system_27 =
     )
 
 end_27 : end_of system_27 system_27.root 20000 ≡ Empty (multipliers (pos 0) ((3, pos 10) ∷ (4, pos 7) ∷ [])) 6
-unfolding system_27 gcd lowest turned eliminated pivoted
+unfolding system_27 gcd lowest solution_for elimination next_tableau
 end_27 = refl
 
 system_33 : System
@@ -126,7 +126,7 @@ system_33 =
 
 end_33 : end_of system_33 system_33.root 20000
     ≡ Empty (multipliers (pos 0) ((0, pos 3475692362099) ∷ (2, minus 12012860489678) ∷ [])) 1
-unfolding system_33 gcd lowest turned eliminated pivoted
+unfolding system_33 gcd lowest solution_for elimination next_tableau
 end_33 = refl
 
 system_38 : System
@@ -141,7 +141,7 @@ system_38 =
 
 end_38 : end_of system_38 system_38.root 20000
     ≡ Empty (multipliers (pos 0) ((0, pos 1080) ∷ (1, pos 17) ∷ (2, pos 3600) ∷ [])) 2
-unfolding system_38 gcd lowest turned eliminated pivoted
+unfolding system_38 gcd lowest solution_for elimination next_tableau
 end_38 = refl
 
 system_49 : System
@@ -157,7 +157,7 @@ system_49 =
 
 end_49 : end_of system_49 system_49.root 20000
     ≡ Empty (multipliers (pos 0) ((1, pos 7) ∷ (2, pos 1) ∷ (3, pos 5) ∷ [])) 5
-unfolding system_49 gcd lowest turned eliminated pivoted
+unfolding system_49 gcd lowest solution_for elimination next_tableau
 end_49 = refl
 
 system_56 : System
@@ -176,5 +176,5 @@ system_56 =
     )
 
 end_56 : end_of system_56 system_56.root 20000 ≡ Empty (multipliers (pos 0) ((3, minus 1) ∷ [])) 3
-unfolding system_56 gcd lowest turned eliminated pivoted
+unfolding system_56 gcd lowest solution_for elimination next_tableau
 end_56 = refl

@@ -8,19 +8,19 @@ use Rattle.opt_system.specs.Ranges.{Range, IsOrdered, LiesIn}
 use Rattle.opt_system.specs.Systems.{System, IsLimited}
 use Rattle.opt_system.proofs.LimitLemmas.{terms_in}
 use Rattle.opt_frac.specs.Equations.{Equation}
-use Rattle.opt_frac.specs.Elimination.{turned}
+use Rattle.opt_frac.specs.Elimination.{solution_for}
 use Rattle.opt_frac.proofs.NeatSteps.{IsNeat}
 use Rattle.opt_simplex.specs.declared.end.LpEnd.{LpEnd}
 use Rattle.opt_simplex.specs.declared.end.Why.{Why}
 use Rattle.opt_simplex.specs.Variables.{Variables, variables_of, high_of, resting}
 use Rattle.opt_simplex.specs.Tableau.{Tableau, start, equation_at}
 use Rattle.opt_simplex.specs.Choice.{Leaving, values, leaving_from, entering_from}
-use Rattle.opt_simplex.specs.Pivot.{pivoted}
-use Rattle.opt_simplex.specs.Rule.{Look, Ends, Enters, entering, leaving, valued, looked, after, followed, limited, turns, end_of}
+use Rattle.opt_simplex.specs.Pivot.{next_tableau}
+use Rattle.opt_simplex.specs.Rule.{Look, Ends, Enters, entering, leaving, look_with_values, look_of, after, course, end_at_limit, turns, end_of}
 use Rattle.opt_simplex.specs.Soundness.{IsSound}
 use Rattle.opt_simplex.proofs.Suiting.{IsThere}
 use Rattle.opt_simplex.proofs.Regular.{all_of, variables, IsRegular}
-use Rattle.opt_simplex.proofs.Sweeps.{IsSwept, pivoted-is}
+use Rattle.opt_simplex.proofs.Sweeps.{IsSwept, next_tableau-is}
 use Rattle.opt_simplex.proofs.Choices.{AreValues, values-are, IsOut, IsLeaving, leaving-some, leaving-none}
 use Rattle.opt_simplex.proofs.Entries.{IsBest, entering-some, entering-none}
 use Rattle.opt_simplex.proofs.Pivoting.{IsPivot, pivot-regular}
@@ -34,7 +34,7 @@ pub record IsAsked (p : System) (box : Range) (t : Tableau) (l : Leaving) (col :
   pub inside : l.position < length t.equations
   pub equation_is : l.equation ≡ equation_at t.equations l.position
   pub coefficient : coef l.equation.terms col ≢ pos 0
-  pub next_regular : (next : Tableau) → pivoted t l col ≡ Ok next → IsRegular p box next
+  pub next_regular : (next : Tableau) → next_tableau t l col ≡ Ok next → IsRegular p box next
 
 -- what a look at a regular tableau says: a true end, or a pivot that keeps the next one regular
 abbrev pub IsTrueLook : System → Range → Tableau → Look → Type 0
@@ -73,9 +73,9 @@ module _ (p : System) (box : Range) (fit : IsFit p box) where
         equation_is = at_index ∙ ap (equation_at t.equations) (sym position);
         coefficient = λ none. of_term neat best (ap (λ (e : Equation). coef e.terms d.0) (sym at_index) ∙ none);
         next_regular = λ next pivots.
-            let swept : IsSwept (turned d.0 l.equation) (suc l.position) (all_of t) (all_of next) × (next.at_high ≡ slice_set t.at_high l.equation.basic (not l.below)) =
-            pivoted-is t next l d.0 pivots (omega (arith, position, is.inside)) in
-            pivot-regular p box t next is.index l.below d (of_best next best (rw (at_index, position) at swept));
+            let sweep : IsSwept (solution_for d.0 l.equation) (suc l.position) (all_of t) (all_of next) × (next.at_high ≡ slice_set t.at_high l.equation.basic (not l.below)) =
+            next_tableau-is t next l d.0 pivots (omega (arith, position, is.inside)) in
+            pivot-regular p box t next is.index l.below d (of_best next best (rw (at_index, position) at sweep));
       }
     where
       none_some : (b : ℕ × ℤ) → None ≡ Some b → ⊥
@@ -96,10 +96,10 @@ module _ (p : System) (box : Range) (fit : IsFit p box) where
           ]
 
       of_best : (next : Tableau) → IsBest (variables_of p box) t.at_high l.below t.cost None (equation_at t.equations is.index).terms d
-          → IsSwept (turned d.0 (equation_at t.equations is.index)) (suc is.index) (all_of t) (all_of next) ×
+          → IsSwept (solution_for d.0 (equation_at t.equations is.index)) (suc is.index) (all_of t) (all_of next) ×
           (next.at_high ≡ slice_set t.at_high (equation_at t.equations is.index).basic (not l.below))
           → IsPivot p box t next is.index l.below d
-      of_best next best swept =
+      of_best next best sweep =
           elim best.from [
             | inl none ↦ absurd (none_some d none)
             | inr there ↦
@@ -112,8 +112,8 @@ module _ (p : System) (box : Range) (fit : IsFit p box) where
                   term = there.1.2;
                   may = there.0;
                   least = best.least;
-                  sweep = swept.0;
-                  at_high = swept.1;
+                  sweep = sweep.0;
+                  at_high = sweep.1;
                 }
           ]
 
@@ -145,38 +145,38 @@ module _ (p : System) (box : Range) (fit : IsFit p box) where
       none_some : (b : Leaving) → None ≡ Some b → ⊥
       none_some b e = cc
 
-  valued_true : (t : Tableau) (done : ℕ) → IsRegular p box t → (found : Option (List ℤ))
-      → values (resting (variables_of p box) t.at_high) t.equations ≡ found → IsTrueLook p box t (valued (variables_of p box) done t found)
-  valued_true t done regular None made = cost_dual p box t fit.fit_box regular
-  valued_true t done regular (Some zs) made =
+  look_with_values_true : (t : Tableau) (done : ℕ) → IsRegular p box t → (found : Option (List ℤ))
+      → values (resting (variables_of p box) t.at_high) t.equations ≡ found → IsTrueLook p box t (look_with_values (variables_of p box) done t found)
+  look_with_values_true t done regular None made = cost_dual p box t fit.fit_box regular
+  look_with_values_true t done regular (Some zs) made =
       leaving_true t done zs regular (values-are (resting (variables_of p box) t.at_high) t.equations zs made)
       (leaving_from (variables_of p box) 0 None t.equations zs) refl
 
-  pub looked_true : (t : Tableau) (done : ℕ) → IsRegular p box t → IsTrueLook p box t (looked (variables_of p box) done t)
-  looked_true t done regular = valued_true t done regular (values (resting (variables_of p box) t.at_high) t.equations) refl
+  pub look_of_true : (t : Tableau) (done : ℕ) → IsRegular p box t → IsTrueLook p box t (look_of (variables_of p box) done t)
+  look_of_true t done regular = look_with_values_true t done regular (values (resting (variables_of p box) t.at_high) t.equations) refl
 
-  limited_true : (t : Tableau) (done : ℕ) → IsRegular p box t → (look : Look) → IsTrueLook p box t look
-      → IsSound p box (limited (variables_of p box) done t look)
-  limited_true t done regular (Ends end) true_look = true_look
-  limited_true t done regular (Enters l col) asked_for = cost_dual p box t fit.fit_box regular
+  end_at_limit_true : (t : Tableau) (done : ℕ) → IsRegular p box t → (look : Look) → IsTrueLook p box t look
+      → IsSound p box (end_at_limit (variables_of p box) done t look)
+  end_at_limit_true t done regular (Ends end) true_look = true_look
+  end_at_limit_true t done regular (Enters l col) asked_for = cost_dual p box t fit.fit_box regular
 
   after_true : (t : Tableau) (done : ℕ) (go : Tableau → LpEnd) → IsRegular p box t → (made : Result Tableau Why)
       → ((next : Tableau) → made ≡ Ok next → IsSound p box (go next)) → IsSound p box (after (variables_of p box) done t made go)
   after_true t done go regular (Err why) more = cost_dual p box t fit.fit_box regular
   after_true t done go regular (Ok next) more = more next refl
 
-  followed_true : (t : Tableau) (done : ℕ) (go : Tableau → LpEnd) → IsRegular p box t → (look : Look) → IsTrueLook p box t look
+  course_true : (t : Tableau) (done : ℕ) (go : Tableau → LpEnd) → IsRegular p box t → (look : Look) → IsTrueLook p box t look
       → ((next : Tableau) → IsRegular p box next → IsSound p box (go next))
-      → IsSound p box (followed (variables_of p box) done t look go)
-  followed_true t done go regular (Ends end) true_look more = true_look
-  followed_true t done go regular (Enters l col) true_look more =
-      after_true t done go regular (pivoted t l col) (λ next made. more next (true_look.next_regular next made))
+      → IsSound p box (course (variables_of p box) done t look go)
+  course_true t done go regular (Ends end) true_look more = true_look
+  course_true t done go regular (Enters l col) true_look more =
+      after_true t done go regular (next_tableau t l col) (λ next made. more next (true_look.next_regular next made))
 
   turns_sound : (left done : ℕ) (t : Tableau) → IsRegular p box t → IsSound p box (turns (variables_of p box) left done t)
-  turns_sound zero done t regular = limited_true t done regular (looked (variables_of p box) done t) (looked_true t done regular)
+  turns_sound zero done t regular = end_at_limit_true t done regular (look_of (variables_of p box) done t) (look_of_true t done regular)
   turns_sound (suc left) done t regular =
-      followed_true t done (λ next. turns (variables_of p box) left (done + 1) next) regular (looked (variables_of p box) done t)
-      (looked_true t done regular)
+      course_true t done (λ next. turns (variables_of p box) left (done + 1) next) regular (look_of (variables_of p box) done t)
+      (look_of_true t done regular)
       (λ next next_regular. turns_sound left (done + 1) next next_regular)
 
   fit_sound : (pivots : ℕ) → IsSound p box (end_of p box pivots)

@@ -8,9 +8,9 @@ use Rattle.opt_sums.proofs.EntryLemmas.{coef-none}
 use Rattle.opt_sums.proofs.Ring.{mul_neg}
 use Rattle.opt_sums.proofs.RisingLemmas.{coef-get_or}
 use Rattle.opt_frac.specs.Equations.{Equation}
-use Rattle.opt_frac.specs.Elimination.{turned}
-use Rattle.opt_frac.proofs.Steps.{gap, unit, gap-unit, gap-basic, sign_turned, IsTurned, turned-is, IsReplaced, replaced-is, mul_comm}
-use Rattle.opt_frac.proofs.NeatSteps.{IsNeat, neat-turned, neat-eliminated, numbers-turned}
+use Rattle.opt_frac.specs.Elimination.{solution_for}
+use Rattle.opt_frac.proofs.Steps.{gap, unit, gap-unit, gap-basic, sign_turned, IsTurned, solution_for-is, IsReplaced, replacement-is, mul_comm}
+use Rattle.opt_frac.proofs.NeatSteps.{IsNeat, neat-solution_for, neat-elimination, numbers-solution_for}
 use Rattle.opt_simplex.specs.Tableau.{equation_at}
 use Rattle.opt_simplex.proofs.Regular.{MeetsAll, AreApart}
 use Rattle.opt_simplex.proofs.Sweeps.{IsTreated, IsSwept}
@@ -54,7 +54,7 @@ stepped n by old new by_neat old_neat apart h = by_coef (cases_zero (coef old.te
     by_coef (inl none) =
         record { replaced = kept_as_it_was by old new by_neat.lead_positive old_neat.lead_positive none (h.same none); neat = rw (h.same none) old_neat }
     by_coef (inr some) =
-        record { replaced = replaced-is by old new by_neat.lead_positive old_neat.lead_positive (h.made some); neat = neat-eliminated n by old new by_neat old_neat some apart (h.made some) }
+        record { replaced = replacement-is by old new by_neat.lead_positive old_neat.lead_positive (h.made some); neat = neat-elimination n by old new by_neat old_neat some apart (h.made some) }
 
 -- the equation at the position is turned for the variable col, at which it has a term
 pub record IsExchange (n col position : ℕ) (olds news : List Equation) : Type 0 where
@@ -63,11 +63,11 @@ pub record IsExchange (n col position : ℕ) (olds news : List Equation) : Type 
   pub are_apart : AreApart olds
   pub basic_below : (equation_at olds position).basic < n
   pub coefficient : coef (equation_at olds position).terms col ≢ pos 0
-  pub sweep : IsSwept (turned col (equation_at olds position)) position olds news
+  pub sweep : IsSwept (solution_for col (equation_at olds position)) position olds news
 
 -- the turned equation
-abbrev pub turned_at : ℕ → ℕ → List Equation → Equation
-turned_at col position olds = turned col (equation_at olds position)
+abbrev pub solution_at : ℕ → ℕ → List Equation → Equation
+solution_at col position olds = solution_for col (equation_at olds position)
 
 -- the entering variable is in no basis
 pub col_apart : (n col position : ℕ) (olds news : List Equation) (i : ℕ) → IsExchange n col position olds news → i < length olds
@@ -75,28 +75,28 @@ pub col_apart : (n col position : ℕ) (olds news : List Equation) (i : ℕ) →
 col_apart n col position olds news i h below same =
     h.coefficient (ap (coef (equation_at olds position).terms) same ∙ h.are_apart.no_term position i h.inside below)
 
-pub turned_at-is : (n col position : ℕ) (olds news : List Equation) → IsExchange n col position olds news
-    → IsTurned col (equation_at olds position) (turned_at col position olds)
-turned_at-is n col position olds news h =
-    turned-is col (equation_at olds position) (col_apart n col position olds news position h h.inside) h.coefficient
+pub solution_at-is : (n col position : ℕ) (olds news : List Equation) → IsExchange n col position olds news
+    → IsTurned col (equation_at olds position) (solution_at col position olds)
+solution_at-is n col position olds news h =
+    solution_for-is col (equation_at olds position) (col_apart n col position olds news position h h.inside) h.coefficient
 
-pub turned_at-neat : (n col position : ℕ) (olds news : List Equation) → IsExchange n col position olds news → IsNeat n (turned_at col position olds)
-turned_at-neat n col position olds news h = neat-turned n col (equation_at olds position) (h.neat position h.inside) h.basic_below h.coefficient
+pub solution_at-neat : (n col position : ℕ) (olds news : List Equation) → IsExchange n col position olds news → IsNeat n (solution_at col position olds)
+solution_at-neat n col position olds news h = neat-solution_for n col (equation_at olds position) (h.neat position h.inside) h.basic_below h.coefficient
 
 -- no other basic variable stands in the turned equation
-turned_at-apart : (n col position : ℕ) (olds news : List Equation) (i : ℕ) → IsExchange n col position olds news → i < length olds
-    → i ≢ position → All (λ e. e.0 ≢ (equation_at olds i).basic) (turned_at col position olds).terms
-turned_at-apart n col position olds news i h below apart =
+solution_at-apart : (n col position : ℕ) (olds news : List Equation) (i : ℕ) → IsExchange n col position olds news → i < length olds
+    → i ≢ position → All (λ e. e.0 ≢ (equation_at olds i).basic) (solution_at col position olds).terms
+solution_at-apart n col position olds news i h below apart =
     let neat : IsNeat n (equation_at olds position) = h.neat position h.inside in
-    numbers-turned (λ k. k ≢ (equation_at olds i).basic) col (equation_at olds position)
+    numbers-solution_for (λ k. k ≢ (equation_at olds i).basic) col (equation_at olds position)
     (h.are_apart.distinct position i h.inside below (λ e. apart (sym e)))
     (apart_of_coef (equation_at olds position).terms (equation_at olds i).basic neat.rising neat.no_zero (h.are_apart.no_term position i h.inside below))
 
 pub other-stepped : (n col position : ℕ) (olds news : List Equation) (i : ℕ) → IsExchange n col position olds news → i < length olds
-    → i ≢ position → IsStepped n (turned_at col position olds) (equation_at olds i) (equation_at news i)
+    → i ≢ position → IsStepped n (solution_at col position olds) (equation_at olds i) (equation_at news i)
 other-stepped n col position olds news i h below apart =
-    stepped n (turned_at col position olds) (equation_at olds i) (equation_at news i) (turned_at-neat n col position olds news h)
-    (h.neat i below) (turned_at-apart n col position olds news i h below apart) (h.sweep.others i below apart)
+    stepped n (solution_at col position olds) (equation_at olds i) (equation_at news i) (solution_at-neat n col position olds news h)
+    (h.neat i below) (solution_at-apart n col position olds news i h below apart) (h.sweep.others i below apart)
 
 -- ---- what stays
 pub exchange-neat : (n col position : ℕ) (olds news : List Equation) → IsExchange n col position olds news → (i : ℕ) → i < length news
@@ -104,7 +104,7 @@ pub exchange-neat : (n col position : ℕ) (olds news : List Equation) → IsExc
 exchange-neat n col position olds news h i below =
     let inside : i < length olds = omega (arith, h.sweep.same_length) in
     elim (cases_eq i position) [
-      | inl same ↦ rw (ap (equation_at news) same ∙ h.sweep.taken h.inside) (turned_at-neat n col position olds news h)
+      | inl same ↦ rw (ap (equation_at news) same ∙ h.sweep.taken h.inside) (solution_at-neat n col position olds news h)
       | inr apart ↦ (other-stepped n col position olds news i h inside apart).neat
     ]
 
@@ -128,42 +128,42 @@ pub exchange-values : (n col position : ℕ) (olds news : List Equation) → IsE
 exchange-values n col position olds news h f = (old_of_new, new_of_old)
   where
     by : Equation
-    by = turned_at col position olds
+    by = solution_at col position olds
 
     turned_is : (g : ℕ → ℤ)
-        → gap (turned_at col position olds) g ≡ sign_turned (coef (equation_at olds position).terms col) (gap (equation_at olds position) g)
-    turned_is g = (turned_at-is n col position olds news h).each g
+        → gap (solution_at col position olds) g ≡ sign_turned (coef (equation_at olds position).terms col) (gap (equation_at olds position) g)
+    turned_is g = (solution_at-is n col position olds news h).each g
 
     old_of_new : MeetsAll news f → MeetsAll olds f
     old_of_new m i below =
         let there : position < length news = omega (arith, h.sweep.same_length, h.inside) in
-        let by_zero : gap (turned_at col position olds) f ≡ pos 0 = ap (λ e. gap e f) (sym (h.sweep.taken h.inside)) ∙ m position there in
+        let by_zero : gap (solution_at col position olds) f ≡ pos 0 = ap (λ e. gap e f) (sym (h.sweep.taken h.inside)) ∙ m position there in
         elim (cases_eq i position) [
           | inl same ↦
               let z : gap (equation_at olds position) f ≡ pos 0 =
               zero_of_turned (coef (equation_at olds position).terms col) (gap (equation_at olds position) f) (sym (turned_is f) ∙ by_zero) in
               ap (λ k. gap (equation_at olds k) f) same ∙ z
           | inr apart ↦
-              let step : IsReplaced (turned_at col position olds) (equation_at olds i) (equation_at news i) =
+              let step : IsReplaced (solution_at col position olds) (equation_at olds i) (equation_at news i) =
               (other-stepped n col position olds news i h below apart).replaced in
               let new_zero : gap (equation_at news i) f ≡ pos 0 = m i (omega (arith, h.sweep.same_length)) in
-              zero_of_product (turned_at col position olds).lead (gap (equation_at olds i) f)
-              (turned_at-neat n col position olds news h).lead_positive
-              (omega (arith, ints, step.each f, ap (λ z. step.scale *ℤ z) new_zero, ap (λ z. coef (equation_at olds i).terms (turned_at col position olds).basic *ℤ z) by_zero))
+              zero_of_product (solution_at col position olds).lead (gap (equation_at olds i) f)
+              (solution_at-neat n col position olds news h).lead_positive
+              (omega (arith, ints, step.each f, ap (λ z. step.scale *ℤ z) new_zero, ap (λ z. coef (equation_at olds i).terms (solution_at col position olds).basic *ℤ z) by_zero))
         ]
 
     new_of_old : MeetsAll olds f → MeetsAll news f
     new_of_old m i below =
         let inside : i < length olds = omega (arith, h.sweep.same_length) in
-        let by_zero : gap (turned_at col position olds) f ≡ pos 0 =
+        let by_zero : gap (solution_at col position olds) f ≡ pos 0 =
         turned_is f ∙ turned_zero (coef (equation_at olds position).terms col) (gap (equation_at olds position) f) (m position h.inside) in
         elim (cases_eq i position) [
           | inl same ↦ ap (λ k. gap (equation_at news k) f) same ∙ ap (λ e. gap e f) (h.sweep.taken h.inside) ∙ by_zero
           | inr apart ↦
-              let step : IsReplaced (turned_at col position olds) (equation_at olds i) (equation_at news i) =
+              let step : IsReplaced (solution_at col position olds) (equation_at olds i) (equation_at news i) =
               (other-stepped n col position olds news i h inside apart).replaced in
               zero_of_product step.scale (gap (equation_at news i) f) step.scale_positive
-              (omega (arith, ints, step.each f, ap (λ z. (turned_at col position olds).lead *ℤ z) (m i inside), ap (λ z. coef (equation_at olds i).terms (turned_at col position olds).basic *ℤ z) by_zero))
+              (omega (arith, ints, step.each f, ap (λ z. (solution_at col position olds).lead *ℤ z) (m i inside), ap (λ z. coef (equation_at olds i).terms (solution_at col position olds).basic *ℤ z) by_zero))
         ]
 
 -- ---- the new basis
@@ -172,7 +172,7 @@ pub exchange-basic : (n col position : ℕ) (olds news : List Equation) (i : ℕ
 exchange-basic n col position olds news i h below apart = (other-stepped n col position olds news i h below apart).replaced.same_basic
 
 pub exchange-col : (n col position : ℕ) (olds news : List Equation) → IsExchange n col position olds news → (equation_at news position).basic ≡ col
-exchange-col n col position olds news h = ap (λ (e : Equation). e.basic) (h.sweep.taken h.inside) ∙ (turned_at-is n col position olds news h).basic
+exchange-col n col position olds news h = ap (λ (e : Equation). e.basic) (h.sweep.taken h.inside) ∙ (solution_at-is n col position olds news h).basic
 
 -- a treated equation at a variable other than its own
 stepped_at : (by old new : Equation) (k : ℕ) → IsReplaced by old new → k ≢ old.basic
@@ -201,13 +201,13 @@ stepped_none by old new k h apart by_apart none by_none =
 pub exchange-apart : (n col position : ℕ) (olds news : List Equation) → IsExchange n col position olds news → AreApart news
 exchange-apart n col position olds news h = record { no_term = no_term_at; distinct = distinct_at }
   where
-    by_basic : (turned_at col position olds).basic ≡ col
-    by_basic = (turned_at-is n col position olds news h).basic
+    by_basic : (solution_at col position olds).basic ≡ col
+    by_basic = (solution_at-is n col position olds news h).basic
 
-    by_apart : (i : ℕ) → i < length olds → (turned_at col position olds).basic ≢ (equation_at olds i).basic
+    by_apart : (i : ℕ) → i < length olds → (solution_at col position olds).basic ≢ (equation_at olds i).basic
     by_apart i below same = col_apart n col position olds news i h below (sym by_basic ∙ same)
 
-    taken_basic : (i : ℕ) → i ≡ position → (equation_at news i).basic ≡ (turned_at col position olds).basic
+    taken_basic : (i : ℕ) → i ≡ position → (equation_at news i).basic ≡ (solution_at col position olds).basic
     taken_basic i same = ap (λ k. (equation_at news k).basic) same ∙ ap (λ (e : Equation). e.basic) (h.sweep.taken h.inside)
 
     distinct_at : (i j : ℕ) → i < length news → j < length news → i ≢ j → (equation_at news i).basic ≢ (equation_at news j).basic
@@ -231,12 +231,12 @@ exchange-apart n col position olds news h = record { no_term = no_term_at; disti
     own : (i : ℕ) → i < length news → coef (equation_at news i).terms (equation_at news i).basic ≡ pos 0
     own i below = coef-none (equation_at news i).terms (equation_at news i).basic (exchange-neat n col position olds news h i below).apart
 
-    by_own : coef (turned_at col position olds).terms (turned_at col position olds).basic ≡ pos 0
-    by_own = coef-none (turned_at col position olds).terms (turned_at col position olds).basic (turned_at-neat n col position olds news h).apart
+    by_own : coef (solution_at col position olds).terms (solution_at col position olds).basic ≡ pos 0
+    by_own = coef-none (solution_at col position olds).terms (solution_at col position olds).basic (solution_at-neat n col position olds news h).apart
 
-    by_other : (j : ℕ) → j < length olds → j ≢ position → coef (turned_at col position olds).terms (equation_at olds j).basic ≡ pos 0
+    by_other : (j : ℕ) → j < length olds → j ≢ position → coef (solution_at col position olds).terms (equation_at olds j).basic ≡ pos 0
     by_other j below apart =
-        coef-none (turned_at col position olds).terms (equation_at olds j).basic (turned_at-apart n col position olds news j h below apart)
+        coef-none (solution_at col position olds).terms (equation_at olds j).basic (solution_at-apart n col position olds news j h below apart)
 
     no_term_at : (i j : ℕ) → i < length news → j < length news → coef (equation_at news i).terms (equation_at news j).basic ≡ pos 0
     no_term_at i j i_below j_below =
@@ -254,15 +254,15 @@ exchange-apart n col position olds news h = record { no_term = no_term_at; disti
                     ∙ ap (λ (e : Equation). coef e.terms (equation_at olds j).basic) (h.sweep.taken h.inside)
                     ∙ by_other j j_in j_other
                 | inr i_other ↦
-                    let step : IsReplaced (turned_at col position olds) (equation_at olds i) (equation_at news i) =
+                    let step : IsReplaced (solution_at col position olds) (equation_at olds i) (equation_at news i) =
                     (other-stepped n col position olds news i h i_in i_other).replaced in
                     elim (cases_eq j position) [
                       | inl j_here ↦
                           ap (coef (equation_at news i).terms) (taken_basic j j_here)
-                          ∙ stepped_gone (turned_at col position olds) (equation_at olds i) (equation_at news i) step (by_apart i i_in) by_own
+                          ∙ stepped_gone (solution_at col position olds) (equation_at olds i) (equation_at news i) step (by_apart i i_in) by_own
                       | inr j_other ↦
                           ap (coef (equation_at news i).terms) (exchange-basic n col position olds news j h j_in j_other)
-                          ∙ stepped_none (turned_at col position olds) (equation_at olds i) (equation_at news i) (equation_at olds j).basic step
+                          ∙ stepped_none (solution_at col position olds) (equation_at olds i) (equation_at news i) (equation_at olds j).basic step
                           (λ e. h.are_apart.distinct i j i_in j_in apart (sym e)) (λ e. by_apart j j_in (sym e))
                           (h.are_apart.no_term i j i_in j_in) (by_other j j_in j_other)
                     ]

@@ -51,18 +51,18 @@ first_fractional-means fs i e =
 
 -- ---- where floors lie
 -- a number is its quotient times the divisor and a remainder below it
-record AreParts (a d : ℤ) : Type 0 where
-  parts : a ≡ (d *ℤ int_div_euclid a d) +ℤ int_rem_euclid a d
-  from_zero : pos 0 ≤ℤ int_rem_euclid a d
-  below : int_rem_euclid a d <ℤ d
+pub record AreParts (a d : ℤ) : Type 0 where
+  pub parts : a ≡ (d *ℤ int_div_euclid a d) +ℤ int_rem_euclid a d
+  pub from_zero : pos 0 ≤ℤ int_rem_euclid a d
+  pub below : int_rem_euclid a d <ℤ d
 
-parts_of : (a d : ℤ) → pos 1 ≤ℤ d → AreParts a d
+pub parts_of : (a d : ℤ) → pos 1 ≤ℤ d → AreParts a d
 parts_of (pos n) (pos k) h = record { parts = omega (arith, ints); from_zero = omega (arith, ints); below = omega (arith, ints) }
 parts_of (negsuc n) (pos k) h = record { parts = omega (arith, ints); from_zero = omega (arith, ints); below = omega (arith, ints) }
 parts_of a (negsuc k) h = absurd (omega (arith, ints))
 
 -- a factor of at least 1 may be left out
-mul_le-cancel : (s b c : ℤ) → pos 1 ≤ℤ s → (s *ℤ b) ≤ℤ (s *ℤ c) → b ≤ℤ c
+pub mul_le-cancel : (s b c : ℤ) → pos 1 ≤ℤ s → (s *ℤ b) ≤ℤ (s *ℤ c) → b ≤ℤ c
 mul_le-cancel s b c h k =
     elim (most_or_above b c) [
       | inl most ↦ most

@@ -96,7 +96,7 @@ multipliers_fitting p box (Optimal point m done) sound = sound.0.admissible
 multipliers_fitting p box (Empty m done) sound = sound.admissible
 multipliers_fitting p box (Stopped why done m) sound = sound.admissible
 
-guide_end-is : (p : System) (box : Range) → guide_end p box ≡ end_of p box PIVOT_LIMIT
+pub guide_end-is : (p : System) (box : Range) → guide_end p box ≡ end_of p box PIVOT_LIMIT
 unfolding guide_end
 guide_end-is p box = refl
 

@@ -3,8 +3,8 @@ use Rattle.std.proofs.Common.{◌≡◌, [], ◌∷◌, pos, refl}
 use Rattle.opt_system.specs.Systems.{System}
 use Rattle.opt_frac.specs.Divisors.{gcd}
 use Rattle.opt_frac.specs.Equations.{lowest}
-use Rattle.opt_frac.specs.Elimination.{turned, eliminated}
-use Rattle.opt_simplex.specs.Pivot.{pivoted}
+use Rattle.opt_frac.specs.Elimination.{solution_for, elimination}
+use Rattle.opt_simplex.specs.Pivot.{next_tableau}
 use Rattle.opt_simplex.specs.Rule.{end_of}
 use Rattle.opt_simplex.proofs.ExampleSystems.{system, least, equal, minus, multipliers}
 use Rattle.opt_simplex.specs.declared.end.LpEnd.TheVariants.{Optimal}
@@ -21,7 +21,7 @@ system_13 =
 end_13 : end_of system_13 system_13.root 20000
     ≡ Optimal ((pos 1, pos 1) ∷ (pos 86987869997578, pos 14497978332931) ∷ (pos 3, pos 1) ∷ (pos 2379434701885400479349687746, pos 32327603615344444471737235) ∷ [])
     (multipliers (pos 14497978332931) ((0, pos 1) ∷ [])) 2
-unfolding system_13 gcd lowest turned eliminated pivoted
+unfolding system_13 gcd lowest solution_for elimination next_tableau
 end_13 = refl
 
 system_24 : System
@@ -36,7 +36,7 @@ system_24 =
 end_24 : end_of system_24 system_24.root 20000
     ≡ Optimal ((pos 24264462121897, pos 12132231060949) ∷ (pos 3, pos 1) ∷ (pos 21, pos 1) ∷ (pos 0, pos 1) ∷ [])
     (multipliers (pos 12132231060949) ((1, pos 5) ∷ [])) 2
-unfolding system_24 gcd lowest turned eliminated pivoted
+unfolding system_24 gcd lowest solution_for elimination next_tableau
 end_24 = refl
 
 system_35 : System
@@ -58,7 +58,7 @@ system_35 =
 end_35 : end_of system_35 system_35.root 20000
     ≡ Optimal ((pos 4, pos 1) ∷ (pos 1025, pos 1039) ∷ (pos 10259, pos 1039) ∷ (pos 4427, pos 1039) ∷ [])
     (multipliers (pos 1039) ((4, pos 462) ∷ (5, pos 321) ∷ (6, pos 254) ∷ [])) 9
-unfolding system_35 gcd lowest turned eliminated pivoted
+unfolding system_35 gcd lowest solution_for elimination next_tableau
 end_35 = refl
 
 system_44 : System
@@ -80,7 +80,7 @@ system_44 =
 end_44 : end_of system_44 system_44.root 20000
     ≡ Optimal ((pos 0, pos 1) ∷ (pos 0, pos 1) ∷ (pos 0, pos 1) ∷ (pos 1779, pos 7193) ∷ (pos 26916, pos 7193) ∷ (pos 0, pos 1) ∷ (pos 35580, pos 7193) ∷ (pos 2, pos 1) ∷ (pos 5, pos 1) ∷ [])
     (multipliers (pos 21579) ((2, pos 14666) ∷ (3, pos 21621) ∷ (4, pos 120) ∷ (5, pos 86526) ∷ [])) 6
-unfolding system_44 gcd lowest turned eliminated pivoted
+unfolding system_44 gcd lowest solution_for elimination next_tableau
 end_44 = refl
 
 system_87 : System
@@ -94,7 +94,7 @@ system_87 =
 
 end_87 : end_of system_87 system_87.root 20000
     ≡ Optimal ((pos 0, pos 1) ∷ (pos 3, pos 1) ∷ (pos 0, pos 1) ∷ (pos 24, pos 5) ∷ []) (multipliers (pos 10) ((1, pos 17) ∷ [])) 1
-unfolding system_87 gcd lowest turned eliminated pivoted
+unfolding system_87 gcd lowest solution_for elimination next_tableau
 end_87 = refl
 
 system_93 : System
@@ -107,7 +107,7 @@ system_93 =
 
 end_93 : end_of system_93 system_93.root 1
     ≡ Optimal ((pos 0, pos 1) ∷ (pos 239, pos 10) ∷ (pos 1, pos 1) ∷ (pos 0, pos 1) ∷ []) (multipliers (pos 10) ((0, pos 1) ∷ [])) 1
-unfolding system_93 gcd lowest turned eliminated pivoted
+unfolding system_93 gcd lowest solution_for elimination next_tableau
 end_93 = refl
 
 system_97 : System
@@ -125,7 +125,7 @@ system_97 =
 end_97 : end_of system_97 system_97.root 20000
     ≡ Optimal ((pos 4, pos 1) ∷ (pos 8, pos 1) ∷ (pos 15769, pos 2192) ∷ (pos 6707, pos 2192) ∷ (pos 18491, pos 274) ∷ [])
     (multipliers (pos 2192) ((0, pos 158) ∷ (2, pos 8271) ∷ (3, pos 5401) ∷ [])) 10
-unfolding system_97 gcd lowest turned eliminated pivoted
+unfolding system_97 gcd lowest solution_for elimination next_tableau
 end_97 = refl
 
 system_100 : System
@@ -143,7 +143,7 @@ system_100 =
 end_100 : end_of system_100 system_100.root 20000
     ≡ Optimal ((pos 178, pos 21) ∷ (pos 4, pos 1) ∷ (pos 9502, pos 105) ∷ (pos 0, pos 1) ∷ (pos 4, pos 3) ∷ [])
     (multipliers (pos 21) ((0, minus 6) ∷ (1, pos 2) ∷ [])) 5
-unfolding system_100 gcd lowest turned eliminated pivoted
+unfolding system_100 gcd lowest solution_for elimination next_tableau
 end_100 = refl
 
 system_110 : System
@@ -157,7 +157,7 @@ system_110 =
 
 end_110 : end_of system_110 system_110.root 1
     ≡ Optimal ((pos 0, pos 1) ∷ (pos 0, pos 1) ∷ (pos 10, pos 3) ∷ (pos 0, pos 1) ∷ []) (multipliers (pos 1) []) 1
-unfolding system_110 gcd lowest turned eliminated pivoted
+unfolding system_110 gcd lowest solution_for elimination next_tableau
 end_110 = refl
 
 system_117 : System
@@ -178,7 +178,7 @@ system_117 =
 end_117 : end_of system_117 system_117.root 20000
     ≡ Optimal ((pos 0, pos 1) ∷ (pos 3, pos 1) ∷ (pos 3, pos 10) ∷ (pos 13313, pos 3600) ∷ (pos 3233, pos 360) ∷ (pos 1, pos 1) ∷ (pos 964799, pos 432000) ∷ (pos 0, pos 1) ∷ [])
     (multipliers (pos 216000) ((2, pos 21480) ∷ (3, pos 21840) ∷ (4, pos 1200) ∷ (5, pos 43) ∷ [])) 8
-unfolding system_117 gcd lowest turned eliminated pivoted
+unfolding system_117 gcd lowest solution_for elimination next_tableau
 end_117 = refl
 
 system_127 : System
@@ -196,7 +196,7 @@ system_127 =
 end_127 : end_of system_127 system_127.root 20000
     ≡ Optimal ((pos 1, pos 1) ∷ (pos 4, pos 1) ∷ (pos 0, pos 1) ∷ (pos 47, pos 45) ∷ (pos 57, pos 10) ∷ [])
     (multipliers (pos 10) ((1, minus 1) ∷ (2, pos 1) ∷ (3, minus 175) ∷ [])) 5
-unfolding system_127 gcd lowest turned eliminated pivoted
+unfolding system_127 gcd lowest solution_for elimination next_tableau
 end_127 = refl
 
 system_131 : System
@@ -213,7 +213,7 @@ system_131 =
 end_131 : end_of system_131 system_131.root 20000
     ≡ Optimal ((pos 2, pos 1) ∷ (pos 0, pos 1) ∷ (pos 0, pos 1) ∷ (pos 0, pos 1) ∷ (pos 38763, pos 21508) ∷ (pos 0, pos 1) ∷ (pos 145, pos 21508) ∷ (pos 1643453, pos 21508) ∷ [])
     (multipliers (pos 258096) ((0, pos 3625) ∷ (1, pos 1438) ∷ (2, pos 1458) ∷ [])) 5
-unfolding system_131 gcd lowest turned eliminated pivoted
+unfolding system_131 gcd lowest solution_for elimination next_tableau
 end_131 = refl
 
 system_134 : System
@@ -228,7 +228,7 @@ system_134 =
 
 end_134 : end_of system_134 system_134.root 20000
     ≡ Optimal ((pos 119, pos 2) ∷ (pos 8, pos 1) ∷ (pos 1, pos 1) ∷ (pos 1, pos 1) ∷ []) (multipliers (pos 1) ((2, pos 1) ∷ [])) 2
-unfolding system_134 gcd lowest turned eliminated pivoted
+unfolding system_134 gcd lowest solution_for elimination next_tableau
 end_134 = refl
 
 system_137 : System
@@ -246,7 +246,7 @@ system_137 =
 end_137 : end_of system_137 system_137.root 20000
     ≡ Optimal ((pos 7, pos 5) ∷ (pos 1, pos 1) ∷ (pos 47, pos 10) ∷ (pos 4, pos 1) ∷ [])
     (multipliers (pos 5) ((0, pos 5) ∷ (4, pos 1) ∷ [])) 4
-unfolding system_137 gcd lowest turned eliminated pivoted
+unfolding system_137 gcd lowest solution_for elimination next_tableau
 end_137 = refl
 
 system_140 : System
@@ -262,7 +262,7 @@ system_140 =
 
 end_140 : end_of system_140 system_140.root 20000
     ≡ Optimal ((pos 0, pos 1) ∷ (pos 41, pos 1) ∷ (pos 0, pos 1) ∷ (pos 3239, pos 45) ∷ []) (multipliers (pos 1) ((2, pos 1) ∷ [])) 3
-unfolding system_140 gcd lowest turned eliminated pivoted
+unfolding system_140 gcd lowest solution_for elimination next_tableau
 end_140 = refl
 
 system_143 : System
@@ -278,7 +278,7 @@ system_143 =
 end_143 : end_of system_143 system_143.root 20000
     ≡ Optimal ((pos 2, pos 1) ∷ (pos 0, pos 1) ∷ (pos 0, pos 1) ∷ (pos 4, pos 1) ∷ (pos 0, pos 1) ∷ (pos 0, pos 1) ∷ (pos 0, pos 1) ∷ (pos 0, pos 1) ∷ (pos 0, pos 1) ∷ [])
     (multipliers (pos 1) ((0, minus 5) ∷ [])) 2
-unfolding system_143 gcd lowest turned eliminated pivoted
+unfolding system_143 gcd lowest solution_for elimination next_tableau
 end_143 = refl
 
 system_149 : System
@@ -298,5 +298,5 @@ system_149 =
 end_149 : end_of system_149 system_149.root 20000
     ≡ Optimal ((pos 10, pos 11) ∷ (pos 36, pos 11) ∷ (pos 0, pos 1) ∷ (pos 32, pos 11) ∷ [])
     (multipliers (pos 165) ((2, pos 89) ∷ (3, pos 59) ∷ (4, pos 324) ∷ [])) 7
-unfolding system_149 gcd lowest turned eliminated pivoted
+unfolding system_149 gcd lowest solution_for elimination next_tableau
 end_149 = refl

@@ -7,17 +7,17 @@ use Rattle.std.proofs.lemmas.List.{length-set, get_or-set_same, get_or-set_other
 use Rattle.opt_sums.specs.Sums.{at}
 use Rattle.opt_sums.specs.Entries.{coef}
 use Rattle.opt_frac.specs.Equations.{Equation}
-use Rattle.opt_frac.specs.Elimination.{turned}
+use Rattle.opt_frac.specs.Elimination.{solution_for}
 use Rattle.opt_simplex.specs.declared.end.Why.TheVariants.{Wide}
 use Rattle.opt_simplex.specs.Variables.{Variables, resting}
 use Rattle.opt_simplex.specs.Tableau.{Tableau, equation_at}
 use Rattle.opt_simplex.specs.Choice.{Leaving, sum_from, values, leaving_from}
 use Rattle.opt_simplex.specs.Columns.{positions_from}
-use Rattle.opt_simplex.specs.Pivot.{pivoted}
-use Rattle.opt_simplex.specs.Rule.{Look, Ends, Enters, stopped, leaving, looked}
+use Rattle.opt_simplex.specs.Pivot.{next_tableau}
+use Rattle.opt_simplex.specs.Rule.{Look, Ends, Enters, stop, leaving, look_of}
 use Rattle.opt_simplex.specs.Shape.{MayPivot}
 use Rattle.opt_simplex.specs.Values.{Values, IsNoted, AreNotedBut, AreNoted, AreSides, LeavesBy, side_of, side_at}
-use Rattle.opt_simplex.proofs.Sweeps.{IsSwept, pivoted-is}
+use Rattle.opt_simplex.proofs.Sweeps.{IsSwept, next_tableau-is}
 use Rattle.opt_simplex.proofs.Regular.{all_of}
 use Rattle.opt_simplex.proofs.KeptValues.{value_kept}
 use Rattle.opt_simplex.proofs.ValueSteps.{values-all, values-wide}
@@ -133,14 +133,14 @@ module _ (v : Variables) (t : Tableau) (k : Values) (h : AreNoted v t k) where
   noted-sides narrow =
       record { same_length = h.numbers_each; each = λ i inside. (h.noted narrow i inside (none_left i)).side }
 
-  pub noted-stops : (done : ℕ) → k.wide ≡ true → looked v done t ≡ Ends (stopped v Wide done t)
+  pub noted-stops : (done : ℕ) → k.wide ≡ true → look_of v done t ≡ Ends (stop v Wide done t)
   noted-stops done wide = rw (h.wide wide) refl
 
-  pub noted-look : (done : ℕ) → k.wide ≡ false → looked v done t ≡ leaving v done t k.numbers (leaving_from v 0 None t.equations k.numbers)
+  pub noted-look : (done : ℕ) → k.wide ≡ false → look_of v done t ≡ leaving v done t k.numbers (leaving_from v 0 None t.equations k.numbers)
   noted-look done narrow = rw (noted-values narrow) refl
 
   -- where a pivot is asked for, all values fit
-  pub noted-narrow : (done : ℕ) (l : Leaving) (col : ℕ) → looked v done t ≡ Enters l col → k.wide ≡ false
+  pub noted-narrow : (done : ℕ) (l : Leaving) (col : ℕ) → look_of v done t ≡ Enters l col → k.wide ≡ false
   noted-narrow done l col asks = by_flag k.wide refl
     where
       apart : (end : _) → Ends end ≡ Enters l col → ⊥
@@ -148,20 +148,20 @@ module _ (v : Variables) (t : Tableau) (k : Values) (h : AreNoted v t k) where
 
       by_flag : (b : Bool) → k.wide ≡ b → k.wide ≡ false
       by_flag false is = is
-      by_flag true is = absurd (apart (stopped v Wide done t) (sym (noted-stops done is) ∙ asks))
+      by_flag true is = absurd (apart (stop v Wide done t) (sym (noted-stops done is) ∙ asks))
 
 -- ---- a pivot: an equation without a term at the entering variable keeps its value
-module _ (v : Variables) (t next : Tableau) (l : Leaving) (col : ℕ) (k : Values) (listed : List ℕ) (made : pivoted t l col ≡ Ok next)
+module _ (v : Variables) (t next : Tableau) (l : Leaving) (col : ℕ) (k : Values) (listed : List ℕ) (made : next_tableau t l col ≡ Ok next)
     (may : MayPivot t l.position col) (equation_is : l.equation ≡ equation_at t.equations l.position) (listed_is : listed ≡ positions_from col 0 t.equations)
     (h : AreNoted v t k) (narrow : k.wide ≡ false) where
-  is : IsSwept (turned col l.equation) (suc l.position) (all_of t) (all_of next) × (next.at_high ≡ slice_set t.at_high l.equation.basic (not l.below))
-  is = pivoted-is t next l col made may.inside
+  is : IsSwept (solution_for col l.equation) (suc l.position) (all_of t) (all_of next) × (next.at_high ≡ slice_set t.at_high l.equation.basic (not l.below))
+  is = next_tableau-is t next l col made may.inside
 
   same_length : length next.equations ≡ length t.equations
   same_length = omega (arith, is.0.same_length)
 
   equation_kept : (i : ℕ) → i < length t.equations → (Contains listed i → ⊥) → equation_at next.equations i ≡ equation_at t.equations i
-  unfolding turned
+  unfolding solution_for
   equation_kept i inside out =
       let size : unsigned_abs (coef (equation_at t.equations i).terms col) ≡ 0 =
       positions-without col t.equations i inside (λ m. out (subst (λ ps. Contains ps i) (sym listed_is) m)) in
@@ -199,7 +199,7 @@ module _ (v : Variables) (t next : Tableau) (l : Leaving) (col : ℕ) (k : Value
 -- what is asked for where this variable leaves, or none does
 pub noted-chosen : (v : Variables) (t : Tableau) (k : Values) (done : ℕ) (sides : List (Option Bool)) (es : List Equation) (chosen : Option Leaving)
     → AreNoted v t k → k.wide ≡ false → es ≡ t.equations → sides ≡ k.sides → LeavesBy es sides chosen
-    → looked v done t ≡ leaving v done t k.numbers chosen
+    → look_of v done t ≡ leaving v done t k.numbers chosen
 noted-chosen v t k done sides es chosen h narrow es_are sides_are leaves =
     let same : LeavesBy t.equations k.sides chosen =
     subst (λ ss. LeavesBy t.equations ss chosen) sides_are (subst (λ ds. LeavesBy ds sides chosen) es_are leaves) in

@@ -3,8 +3,8 @@ use Rattle.std.proofs.Common.{◌≡◌, [], ◌∷◌, pos, refl}
 use Rattle.opt_system.specs.Systems.{System}
 use Rattle.opt_frac.specs.Divisors.{gcd}
 use Rattle.opt_frac.specs.Equations.{lowest}
-use Rattle.opt_frac.specs.Elimination.{turned, eliminated}
-use Rattle.opt_simplex.specs.Pivot.{pivoted}
+use Rattle.opt_frac.specs.Elimination.{solution_for, elimination}
+use Rattle.opt_simplex.specs.Pivot.{next_tableau}
 use Rattle.opt_simplex.specs.Rule.{end_of}
 use Rattle.opt_simplex.proofs.ExampleSystems.{system, least, equal, minus, multipliers}
 use Rattle.opt_simplex.specs.declared.end.LpEnd.TheVariants.{Optimal}
@@ -19,7 +19,7 @@ system_58 =
 
 end_58 : end_of system_58 system_58.root 20000
     ≡ Optimal ((pos 3, pos 1) ∷ (pos 0, pos 1) ∷ (pos 0, pos 1) ∷ []) (multipliers (pos 1) []) 1
-unfolding system_58 gcd lowest turned eliminated pivoted
+unfolding system_58 gcd lowest solution_for elimination next_tableau
 end_58 = refl
 
 system_62 : System
@@ -34,7 +34,7 @@ system_62 =
 
 end_62 : end_of system_62 system_62.root 20000
     ≡ Optimal ((pos 13921733256408, pos 4640577752137) ∷ []) (multipliers (pos 1) []) 1
-unfolding system_62 gcd lowest turned eliminated pivoted
+unfolding system_62 gcd lowest solution_for elimination next_tableau
 end_62 = refl
 
 system_72 : System
@@ -47,7 +47,7 @@ system_72 =
 
 end_72 : end_of system_72 system_72.root 20000
     ≡ Optimal ((pos 1, pos 1) ∷ (pos 19, pos 1) ∷ []) (multipliers (pos 1) ((0, pos 1) ∷ [])) 2
-unfolding system_72 gcd lowest turned eliminated pivoted
+unfolding system_72 gcd lowest solution_for elimination next_tableau
 end_72 = refl
 
 system_75 : System
@@ -60,7 +60,7 @@ system_75 =
 
 end_75 : end_of system_75 system_75.root 20000
     ≡ Optimal ((pos 0, pos 1) ∷ (pos 3, pos 1) ∷ (pos 10, pos 1) ∷ []) (multipliers (pos 13871556135759) ((0, pos 1) ∷ [])) 1
-unfolding system_75 gcd lowest turned eliminated pivoted
+unfolding system_75 gcd lowest solution_for elimination next_tableau
 end_75 = refl
 
 system_84 : System
@@ -74,7 +74,7 @@ system_84 =
 
 end_84 : end_of system_84 system_84.root 20000
     ≡ Optimal ((pos 89, pos 5) ∷ (pos 28, pos 5) ∷ (pos 0, pos 1) ∷ []) (multipliers (pos 5) ((0, pos 5) ∷ (1, pos 2) ∷ [])) 4
-unfolding system_84 gcd lowest turned eliminated pivoted
+unfolding system_84 gcd lowest solution_for elimination next_tableau
 end_84 = refl
 
 system_105 : System
@@ -89,7 +89,7 @@ system_105 =
 
 end_105 : end_of system_105 system_105.root 20000
     ≡ Optimal ((pos 64, pos 1) ∷ (pos 10, pos 1) ∷ (pos 5, pos 1) ∷ []) (multipliers (pos 15) ((0, pos 5) ∷ (2, pos 3) ∷ [])) 3
-unfolding system_105 gcd lowest turned eliminated pivoted
+unfolding system_105 gcd lowest solution_for elimination next_tableau
 end_105 = refl
 
 system_123 : System
@@ -103,7 +103,7 @@ system_123 =
 
 end_123 : end_of system_123 system_123.root 20000
     ≡ Optimal ((pos 0, pos 1) ∷ (pos 7, pos 1) ∷ []) (multipliers (pos 7) ((0, minus 1) ∷ [])) 1
-unfolding system_123 gcd lowest turned eliminated pivoted
+unfolding system_123 gcd lowest solution_for elimination next_tableau
 end_123 = refl
 
 system_146 : System
@@ -118,5 +118,5 @@ system_146 =
 
 end_146 : end_of system_146 system_146.root 20000
     ≡ Optimal ((pos 3, pos 1) ∷ (pos 6, pos 1) ∷ (pos 19, pos 5) ∷ []) (multipliers (pos 5) ((0, pos 85) ∷ (1, pos 1) ∷ [])) 3
-unfolding system_146 gcd lowest turned eliminated pivoted
+unfolding system_146 gcd lowest solution_for elimination next_tableau
 end_146 = refl

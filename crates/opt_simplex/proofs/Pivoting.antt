@@ -10,7 +10,7 @@ use Rattle.opt_sums.proofs.RisingLemmas.{coef-get_or}
 use Rattle.opt_system.specs.Ranges.{Range}
 use Rattle.opt_system.specs.Systems.{System}
 use Rattle.opt_frac.specs.Equations.{Equation}
-use Rattle.opt_frac.specs.Elimination.{turned}
+use Rattle.opt_frac.specs.Elimination.{solution_for}
 use Rattle.opt_frac.proofs.Steps.{gap, unit, gap-unit, gap-basic, sign_turned, IsTurned, IsReplaced}
 use Rattle.opt_frac.proofs.NeatSteps.{IsNeat}
 use Rattle.opt_simplex.specs.Variables.{Variables, variables_of, low_of, high_of, rests_high, end_of_range, resting, is_free}
@@ -22,7 +22,7 @@ use Rattle.opt_simplex.proofs.Suiting.{IsThere, suits_fixed, suits_sign, suits_e
 use Rattle.opt_simplex.proofs.Regular.{all_of, MeetsAll, variables, IsRegular}
 use Rattle.opt_simplex.proofs.Sweeps.{IsSwept}
 use Rattle.opt_simplex.proofs.Entries.{HasLeastRatio, helper_not_zero, find_term, pair_same}
-use Rattle.opt_simplex.proofs.Exchange.{IsExchange, turned_at-is, other-stepped, exchange-neat, exchange-values, exchange-basic, exchange-col, exchange-apart}
+use Rattle.opt_simplex.proofs.Exchange.{IsExchange, solution_at-is, other-stepped, exchange-neat, exchange-values, exchange-basic, exchange-col, exchange-apart}
 
 -- the equation at the position leaves, and the variable of its term d enters
 pub record IsPivot (p : System) (box : Range) (t next : Tableau) (position : ℕ) (below : Bool) (d : ℕ × ℤ) : Type 0 where
@@ -34,7 +34,7 @@ pub record IsPivot (p : System) (box : Range) (t next : Tableau) (position : ℕ
   pub term : get_or (equation_at t.equations position).terms index d ≡ d
   pub may : may_enter (variables_of p box) t.at_high below d ≡ true
   pub least : All (λ e. may_enter (variables_of p box) t.at_high below e ≡ true → HasLeastRatio t.cost d e) (equation_at t.equations position).terms
-  pub sweep : IsSwept (turned d.0 (equation_at t.equations position)) (suc position) (all_of t) (all_of next)
+  pub sweep : IsSwept (solution_for d.0 (equation_at t.equations position)) (suc position) (all_of t) (all_of next)
   pub at_high : next.at_high ≡ slice_set t.at_high (equation_at t.equations position).basic (not below)
 
 module _ (p : System) (box : Range) (t next : Tableau) (position : ℕ) (below : Bool) (d : ℕ × ℤ) (h : IsPivot p box t next position below d) where
@@ -46,7 +46,7 @@ module _ (p : System) (box : Range) (t next : Tableau) (position : ℕ) (below :
 
   -- the turned equation
   abbrev by : Equation
-  by = turned d.0 leaving
+  by = solution_for d.0 leaving
 
   leaving_neat : IsNeat (variables p) leaving
   leaving_neat = h.regular.neat (suc position) (omega (arith, h.inside))
@@ -118,7 +118,7 @@ module _ (p : System) (box : Range) (t next : Tableau) (position : ℕ) (below :
   cost_step = (other-stepped (variables p) d.0 (suc position) (all_of t) (all_of next) 0 exchange (omega arith) (omega arith)).replaced
 
   is_turned : IsTurned d.0 leaving by
-  is_turned = turned_at-is (variables p) d.0 (suc position) (all_of t) (all_of next) exchange
+  is_turned = solution_at-is (variables p) d.0 (suc position) (all_of t) (all_of next) exchange
 
   -- the new cost of variable k
   new_cost : (k : ℕ) → k < variables p

@@ -12,7 +12,7 @@ use Rattle.opt_system.specs.declared.rows.Row.{Row}
 use Rattle.opt_system.specs.Systems.{System, IsLimited, IsSmallBy, row_at}
 use Rattle.opt_frac.specs.Divisors.{Fits}
 use Rattle.opt_frac.specs.Equations.{Equation, IsSolved, lowest, equation_of}
-use Rattle.opt_frac.proofs.DivisorLemmas.{gcd_with-one, divided-one}
+use Rattle.opt_frac.proofs.DivisorLemmas.{gcd_with-one, quotients-one}
 use Rattle.opt_simplex.specs.Tableau.{row_equations, not_zeros}
 use Rattle.opt_simplex.proofs.Meeting.{cost_entries, AllBelow-cost_entries}
 use Rattle.opt_simplex.proofs.Starts.{not_zeros-none, cost_rising}
@@ -20,7 +20,7 @@ use Rattle.opt_simplex.proofs.Starts.{not_zeros-none, cost_rising}
 -- an equation of lead 1 is in lowest terms
 pub lowest-one : (basic : ℕ) (terms : List (ℕ × ℤ)) → lowest (equation_of basic (pos 1) terms) ≡ equation_of basic (pos 1) terms
 unfolding lowest
-lowest-one basic terms = rw (gcd_with-one terms, divided-one terms) refl
+lowest-one basic terms = rw (gcd_with-one terms, quotients-one terms) refl
 
 -- one row more
 pub row_equations-more : (k : ℕ) (rows : List Row) (i : ℕ) (e : Equation) → i < length rows

@@ -3,8 +3,8 @@ use Rattle.std.proofs.Common.{◌≡◌, [], ◌∷◌, pos, refl}
 use Rattle.opt_system.specs.Systems.{System}
 use Rattle.opt_frac.specs.Divisors.{gcd}
 use Rattle.opt_frac.specs.Equations.{lowest}
-use Rattle.opt_frac.specs.Elimination.{turned, eliminated}
-use Rattle.opt_simplex.specs.Pivot.{pivoted}
+use Rattle.opt_frac.specs.Elimination.{solution_for, elimination}
+use Rattle.opt_simplex.specs.Pivot.{next_tableau}
 use Rattle.opt_simplex.specs.Rule.{end_of}
 use Rattle.opt_simplex.proofs.ExampleSystems.{system, least, equal, minus, multipliers}
 use Rattle.opt_simplex.specs.declared.end.LpEnd.TheVariants.{Stopped}
@@ -24,7 +24,7 @@ system_4 =
     )
 
 end_4 : end_of system_4 system_4.root 1 ≡ Stopped Pivots 1 (multipliers (pos 1) [])
-unfolding system_4 gcd lowest turned eliminated pivoted
+unfolding system_4 gcd lowest solution_for elimination next_tableau
 end_4 = refl
 
 system_29 : System
@@ -41,7 +41,7 @@ system_29 =
     )
 
 end_29 : end_of system_29 system_29.root 1 ≡ Stopped Pivots 1 (multipliers (pos 360) ((1, pos 1) ∷ []))
-unfolding system_29 gcd lowest turned eliminated pivoted
+unfolding system_29 gcd lowest solution_for elimination next_tableau
 end_29 = refl
 
 system_48 : System
@@ -58,7 +58,7 @@ system_48 =
     )
 
 end_48 : end_of system_48 system_48.root 2 ≡ Stopped Pivots 2 (multipliers (pos 1) [])
-unfolding system_48 gcd lowest turned eliminated pivoted
+unfolding system_48 gcd lowest solution_for elimination next_tableau
 end_48 = refl
 
 system_60 : System
@@ -78,7 +78,7 @@ system_60 =
     )
 
 end_60 : end_of system_60 system_60.root 1 ≡ Stopped Pivots 1 (multipliers (pos 1) [])
-unfolding system_60 gcd lowest turned eliminated pivoted
+unfolding system_60 gcd lowest solution_for elimination next_tableau
 end_60 = refl
 
 system_79 : System
@@ -92,7 +92,7 @@ system_79 =
     )
 
 end_79 : end_of system_79 system_79.root 2 ≡ Stopped Pivots 2 (multipliers (pos 360) ((0, pos 1) ∷ []))
-unfolding system_79 gcd lowest turned eliminated pivoted
+unfolding system_79 gcd lowest solution_for elimination next_tableau
 end_79 = refl
 
 system_83 : System
@@ -111,7 +111,7 @@ system_83 =
     )
 
 end_83 : end_of system_83 system_83.root 1 ≡ Stopped Pivots 1 (multipliers (pos 180) ((0, pos 1) ∷ []))
-unfolding system_83 gcd lowest turned eliminated pivoted
+unfolding system_83 gcd lowest solution_for elimination next_tableau
 end_83 = refl
 
 system_92 : System
@@ -125,7 +125,7 @@ system_92 =
     )
 
 end_92 : end_of system_92 system_92.root 2 ≡ Stopped Pivots 2 (multipliers (pos 1) ((0, minus 1) ∷ []))
-unfolding system_92 gcd lowest turned eliminated pivoted
+unfolding system_92 gcd lowest solution_for elimination next_tableau
 end_92 = refl
 
 system_111 : System
@@ -141,7 +141,7 @@ system_111 =
     )
 
 end_111 : end_of system_111 system_111.root 1 ≡ Stopped Pivots 1 (multipliers (pos 1) [])
-unfolding system_111 gcd lowest turned eliminated pivoted
+unfolding system_111 gcd lowest solution_for elimination next_tableau
 end_111 = refl
 
 system_43 : System
@@ -162,7 +162,7 @@ system_43 =
     )
 
 end_43 : end_of system_43 system_43.root 20000 ≡ Stopped Wide 1 (multipliers (pos 14559728686204) ((2, pos 1) ∷ []))
-unfolding system_43 gcd lowest turned eliminated pivoted
+unfolding system_43 gcd lowest solution_for elimination next_tableau
 end_43 = refl
 
 system_63 : System
@@ -176,7 +176,7 @@ system_63 =
     )
 
 end_63 : end_of system_63 system_63.root 2 ≡ Stopped Wide 1 (multipliers (pos 1) [])
-unfolding system_63 gcd lowest turned eliminated pivoted
+unfolding system_63 gcd lowest solution_for elimination next_tableau
 end_63 = refl
 
 system_67 : System
@@ -190,7 +190,7 @@ system_67 =
     )
 
 end_67 : end_of system_67 system_67.root 2 ≡ Stopped Wide 1 (multipliers (pos 5335527166649) ((0, pos 1) ∷ []))
-unfolding system_67 gcd lowest turned eliminated pivoted
+unfolding system_67 gcd lowest solution_for elimination next_tableau
 end_67 = refl
 
 system_70 : System
@@ -204,7 +204,7 @@ system_70 =
     )
 
 end_70 : end_of system_70 system_70.root 20000 ≡ Stopped Wide 1 (multipliers (pos 1) [])
-unfolding system_70 gcd lowest turned eliminated pivoted
+unfolding system_70 gcd lowest solution_for elimination next_tableau
 end_70 = refl
 
 system_106 : System
@@ -225,7 +225,7 @@ system_106 =
     )
 
 end_106 : end_of system_106 system_106.root 20000 ≡ Stopped Wide 1 (multipliers (pos 16982929238453) ((1, pos 1) ∷ []))
-unfolding system_106 gcd lowest turned eliminated pivoted
+unfolding system_106 gcd lowest solution_for elimination next_tableau
 end_106 = refl
 
 system_120 : System
@@ -242,7 +242,7 @@ system_120 =
     )
 
 end_120 : end_of system_120 system_120.root 20000 ≡ Stopped Wide 1 (multipliers (pos 6780389153992) ((0, pos 17) ∷ []))
-unfolding system_120 gcd lowest turned eliminated pivoted
+unfolding system_120 gcd lowest solution_for elimination next_tableau
 end_120 = refl
 
 system_128 : System
@@ -256,5 +256,5 @@ system_128 =
     )
 
 end_128 : end_of system_128 system_128.root 20000 ≡ Stopped Wide 1 (multipliers (pos 1) [])
-unfolding system_128 gcd lowest turned eliminated pivoted
+unfolding system_128 gcd lowest solution_for elimination next_tableau
 end_128 = refl

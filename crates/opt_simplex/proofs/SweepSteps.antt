@@ -5,17 +5,17 @@ use Rattle.std.proofs.lemmas.List.{append-nil, append_assoc, drop_all, drop_more
 use Rattle.opt_base.specs.Answers.{◌>>=◌}
 use Rattle.opt_sums.specs.Entries.{coef}
 use Rattle.opt_frac.specs.Equations.{Equation}
-use Rattle.opt_frac.specs.Elimination.{eliminated}
+use Rattle.opt_frac.specs.Elimination.{elimination}
 use Rattle.opt_simplex.specs.declared.end.Why.{Why}
 use Rattle.opt_simplex.specs.declared.pivot.PivotFault.{PivotFault}
 use Rattle.opt_simplex.specs.declared.pivot.PivotFault.TheVariants.{Stops, OutOfMemory}
 use Rattle.opt_simplex.specs.Outcomes.{Makes}
 use Rattle.opt_simplex.specs.Tableau.{equation_at}
 use Rattle.opt_simplex.specs.Columns.{has_term, positions_from}
-use Rattle.opt_simplex.specs.Pivot.{Swept, Treated, replacing, treated, treated_at, swept}
+use Rattle.opt_simplex.specs.Pivot.{Sweep, Treatment, replacing, treatment, treatment_at, sweep_from}
 
 -- what was made, in front of what the rest of a sweep gives
-abbrev pub with_made : List Equation → Result Swept Why → Result Swept Why
+abbrev pub with_made : List Equation → Result Sweep Why → Result Sweep Why
 with_made made (Ok s) = Ok (record { equations = made ++ s.equations; count = s.count })
 with_made made (Err why) = Err why
 
@@ -23,12 +23,12 @@ with_made made (Err why) = Err why
 pub record IsSweeping (by : Equation) (position : ℕ) (olds news : List Equation) (first stored i : ℕ) : Type 0 where
   pub same_length : length news ≡ length olds
   pub rest : drop i news ≡ drop i olds
-  pub made : with_made (take i (set news position by)) (swept by position i stored (drop i olds)) ≡ swept by position 0 first olds
+  pub made : with_made (take i (set news position by)) (sweep_from by position i stored (drop i olds)) ≡ sweep_from by position 0 first olds
 
 pub sweeping-start : (by : Equation) (position : ℕ) (olds : List Equation) (first : ℕ) → IsSweeping by position olds olds first first 0
-sweeping-start by position olds first = record { same_length = refl; rest = refl; made = front (swept by position 0 first olds) }
+sweeping-start by position olds first = record { same_length = refl; rest = refl; made = front (sweep_from by position 0 first olds) }
   where
-    front : (r : Result Swept Why) → with_made [] r ≡ r
+    front : (r : Result Sweep Why) → with_made [] r ≡ r
     front (Ok s) = refl
     front (Err why) = refl
 
@@ -42,45 +42,45 @@ rest_more : (olds news : List Equation) (i : ℕ) → drop i news ≡ drop i old
 rest_more olds news i h = sym (drop-drop 1 i news) ∙ ap (drop 1) h ∙ drop-drop 1 i olds
 
 -- one equation in front of the rest
-in_front : (made : List Equation) (e : Equation) (r : Result Swept Why)
+in_front : (made : List Equation) (e : Equation) (r : Result Sweep Why)
     → with_made made (r >>= λ s. Ok (record { equations = e ∷ s.equations; count = s.count })) ≡ with_made (made ++ e ∷ []) r
 in_front made e (Ok s) = ap (λ es. Ok (record { equations = es; count = s.count })) (sym (append_assoc made (e ∷ []) s.equations))
 in_front made e (Err why) = refl
 
 -- the sweep from this position on
-swept-step : (by : Equation) (position : ℕ) (olds : List Equation) (stored i : ℕ) → i < length olds
-    → swept by position i stored (drop i olds)
-    ≡ (treated_at by position i stored (equation_at olds i) >>= λ head.
-    swept by position (i + 1) head.count (drop (i + 1) olds) >>= λ s.
+sweep_from-step : (by : Equation) (position : ℕ) (olds : List Equation) (stored i : ℕ) → i < length olds
+    → sweep_from by position i stored (drop i olds)
+    ≡ (treatment_at by position i stored (equation_at olds i) >>= λ head.
+    sweep_from by position (i + 1) head.count (drop (i + 1) olds) >>= λ s.
     Ok (record { equations = head.equation ∷ s.equations; count = s.count }))
-swept-step by position olds stored i h = ap (swept by position i stored) (drop_more olds i (record { basic = 0; lead = pos 1; terms = [] }) h)
+sweep_from-step by position olds stored i h = ap (sweep_from by position i stored) (drop_more olds i (record { basic = 0; lead = pos 1; terms = [] }) h)
 
-treated_other : (by : Equation) (position stored i : ℕ) (e : Equation) → i ≢ position → treated_at by position i stored e ≡ treated by stored e
-treated_other by position stored i e apart = rw (ne_eqb i position apart) refl
+treatment_other : (by : Equation) (position stored i : ℕ) (e : Equation) → i ≢ position → treatment_at by position i stored e ≡ treatment by stored e
+treatment_other by position stored i e apart = rw (ne_eqb i position apart) refl
 
-treated_same : (by : Equation) (position stored i : ℕ) (e : Equation) → i ≡ position
-    → treated_at by position i stored e ≡ Ok (record { equation = by; count = stored })
-treated_same by position stored i e same = rw (eq-eqb i position same) refl
+treatment_same : (by : Equation) (position stored i : ℕ) (e : Equation) → i ≡ position
+    → treatment_at by position i stored e ≡ Ok (record { equation = by; count = stored })
+treatment_same by position stored i e same = rw (eq-eqb i position same) refl
 
 module _ (by : Equation) (position : ℕ) (olds news : List Equation) (first stored i : ℕ) (h : IsSweeping by position olds news first stored i) where
   -- an equation that is treated
   pub sweeping-more : (new : Equation) (count : ℕ) → i < length olds → i ≢ position
-      → treated by stored (equation_at olds i) ≡ Ok (record { equation = new; count = count })
+      → treatment by stored (equation_at olds i) ≡ Ok (record { equation = new; count = count })
       → IsSweeping by position olds (set news i new) first count (i + 1)
   sweeping-more new count inside apart made =
       record {
         same_length = length-set news i new ∙ h.same_length;
         rest = drop-set-lt (i + 1) news i new (omega arith) ∙ rest_more olds news i h.rest;
         made =
-            ap (λ es. with_made es (swept by position (i + 1) count (drop (i + 1) olds)))
+            ap (λ es. with_made es (sweep_from by position (i + 1) count (drop (i + 1) olds)))
             (ap (take (i + 1)) (set_comm news i position new by apart)
             ∙ take_more_set (set news position by) i new (omega (arith, length-set news position by, h.same_length, inside)))
-            ∙ sym (in_front (take i (set news position by)) new (swept by position (i + 1) count (drop (i + 1) olds)))
-            ∙ ap (λ (r : Result Treated Why). with_made (take i (set news position by)) (r >>= λ head.
-            swept by position (i + 1) head.count (drop (i + 1) olds) >>= λ s.
+            ∙ sym (in_front (take i (set news position by)) new (sweep_from by position (i + 1) count (drop (i + 1) olds)))
+            ∙ ap (λ (r : Result Treatment Why). with_made (take i (set news position by)) (r >>= λ head.
+            sweep_from by position (i + 1) head.count (drop (i + 1) olds) >>= λ s.
             Ok (record { equations = head.equation ∷ s.equations; count = s.count })))
-            (sym (treated_other by position stored i (equation_at olds i) apart ∙ made))
-            ∙ ap (with_made (take i (set news position by))) (sym (swept-step by position olds stored i inside))
+            (sym (treatment_other by position stored i (equation_at olds i) apart ∙ made))
+            ∙ ap (with_made (take i (set news position by))) (sym (sweep_from-step by position olds stored i inside))
             ∙ h.made;
       }
 
@@ -91,35 +91,35 @@ module _ (by : Equation) (position : ℕ) (olds news : List Equation) (first sto
         same_length = h.same_length;
         rest = rest_more olds news i h.rest;
         made =
-            ap (λ es. with_made es (swept by position (i + 1) stored (drop (i + 1) olds)))
+            ap (λ es. with_made es (sweep_from by position (i + 1) stored (drop (i + 1) olds)))
             (take_more (set news position by) i by (omega (arith, length-set news position by, h.same_length, inside))
             ∙ ap (λ e. take i (set news position by) ++ e ∷ [])
             (ap (λ k. get_or (set news position by) k by) same ∙ get_or-set_same news position by by (omega (arith, h.same_length, inside, same))))
-            ∙ sym (in_front (take i (set news position by)) by (swept by position (i + 1) stored (drop (i + 1) olds)))
-            ∙ ap (λ (r : Result Treated Why). with_made (take i (set news position by)) (r >>= λ head.
-            swept by position (i + 1) head.count (drop (i + 1) olds) >>= λ s.
+            ∙ sym (in_front (take i (set news position by)) by (sweep_from by position (i + 1) stored (drop (i + 1) olds)))
+            ∙ ap (λ (r : Result Treatment Why). with_made (take i (set news position by)) (r >>= λ head.
+            sweep_from by position (i + 1) head.count (drop (i + 1) olds) >>= λ s.
             Ok (record { equations = head.equation ∷ s.equations; count = s.count })))
-            (sym (treated_same by position stored i (equation_at olds i) same))
-            ∙ ap (with_made (take i (set news position by))) (sym (swept-step by position olds stored i inside))
+            (sym (treatment_same by position stored i (equation_at olds i) same))
+            ∙ ap (with_made (take i (set news position by))) (sym (sweep_from-step by position olds stored i inside))
             ∙ h.made;
       }
 
   -- an equation at which the pivot stops
-  pub sweeping-stops : (why : Why) → i < length olds → i ≢ position → treated by stored (equation_at olds i) ≡ Err why
-      → swept by position 0 first olds ≡ Err why
+  pub sweeping-stops : (why : Why) → i < length olds → i ≢ position → treatment by stored (equation_at olds i) ≡ Err why
+      → sweep_from by position 0 first olds ≡ Err why
   sweeping-stops why inside apart stops =
       sym h.made
-      ∙ ap (with_made (take i (set news position by))) (swept-step by position olds stored i inside)
-      ∙ ap (λ (r : Result Treated Why). with_made (take i (set news position by)) (r >>= λ head.
-      swept by position (i + 1) head.count (drop (i + 1) olds) >>= λ s.
+      ∙ ap (with_made (take i (set news position by))) (sweep_from-step by position olds stored i inside)
+      ∙ ap (λ (r : Result Treatment Why). with_made (take i (set news position by)) (r >>= λ head.
+      sweep_from by position (i + 1) head.count (drop (i + 1) olds) >>= λ s.
       Ok (record { equations = head.equation ∷ s.equations; count = s.count })))
-      (treated_other by position stored i (equation_at olds i) apart ∙ stops)
+      (treatment_other by position stored i (equation_at olds i) apart ∙ stops)
 
   -- all are treated
-  pub sweeping-end : length olds ≤ i → swept by position 0 first olds ≡ Ok (record { equations = set news position by; count = stored })
+  pub sweeping-end : length olds ≤ i → sweep_from by position 0 first olds ≡ Ok (record { equations = set news position by; count = stored })
   sweeping-end past =
       sym h.made
-      ∙ ap (λ es. with_made (take i (set news position by)) (swept by position i stored es)) (none (drop i olds) (omega (arith, length-drop i olds, past)))
+      ∙ ap (λ es. with_made (take i (set news position by)) (sweep_from by position i stored es)) (none (drop i olds) (omega (arith, length-drop i olds, past)))
       ∙ ap (λ es. Ok (record { equations = es; count = stored }))
       (append-nil (take i (set news position by))
       ∙ take_all i (set news position by) (omega (arith, length-set news position by, h.same_length, past)))
@@ -129,11 +129,11 @@ module _ (by : Equation) (position : ℕ) (olds news : List Equation) (first sto
       none (e ∷ es) z = absurd (omega arith)
 
 -- ---- a sweep from one listed position to the next
-treated_none : (by : Equation) (stored : ℕ) (e : Equation) → has_term by.basic e ≡ false → treated by stored e ≡ Ok (record { equation = e; count = stored })
-treated_none by stored e none = by_test (unsigned_abs (coef e.terms by.basic) == 0) none
+treatment_none : (by : Equation) (stored : ℕ) (e : Equation) → has_term by.basic e ≡ false → treatment by stored e ≡ Ok (record { equation = e; count = stored })
+treatment_none by stored e none = by_test (unsigned_abs (coef e.terms by.basic) == 0) none
   where
     by_test : (b : Bool) → not b ≡ false
-        → (if b then Ok (record { equation = e; count = stored }) else replacing e stored (eliminated by e)) ≡ Ok (record { equation = e; count = stored })
+        → (if b then Ok (record { equation = e; count = stored }) else replacing e stored (elimination by e)) ≡ Ok (record { equation = e; count = stored })
     by_test true h = refl
     by_test false h = cc
 
@@ -164,7 +164,7 @@ module _ (by : Equation) (position : ℕ) (olds news : List Equation) (first sto
       by_test (inl here) = sweeping-over by position olds news first stored i h inside here
       by_test (inr apart) =
           subst (λ es. IsSweeping by position olds es first stored (i + 1)) same
-          (sweeping-more by position olds news first stored i h (equation_at olds i) stored inside apart (treated_none by stored (equation_at olds i) none))
+          (sweeping-more by position olds news first stored i h (equation_at olds i) stored inside apart (treatment_none by stored (equation_at olds i) none))
 
   positions_none : (i : ℕ) → length olds ≤ i → positions_from by.basic i (drop i olds) ≡ []
   positions_none i past = ap (positions_from by.basic i) (drop_all i olds past)
@@ -207,27 +207,27 @@ module _ (by : Equation) (position : ℕ) (olds news : List Equation) (first sto
 
   -- past the last listed position
   end_by : (i : ℕ) → (has_term by.basic (equation_at olds i) ≡ false → [] ≡ positions_from by.basic (i + 1) (drop (i + 1) olds)
-      → swept by position 0 first olds ≡ Ok (record { equations = set news position by; count = stored }))
+      → sweep_from by position 0 first olds ≡ Ok (record { equations = set news position by; count = stored }))
       → (b : Bool) → has_term by.basic (equation_at olds i) ≡ b
       → [] ≡ (if b then i ∷ positions_from by.basic (i + 1) (drop (i + 1) olds) else positions_from by.basic (i + 1) (drop (i + 1) olds))
-      → swept by position 0 first olds ≡ Ok (record { equations = set news position by; count = stored })
+      → sweep_from by position 0 first olds ≡ Ok (record { equations = set news position by; count = stored })
   end_by i go true has is = absurd (not_empty i (positions_from by.basic (i + 1) (drop (i + 1) olds)) (sym is))
   end_by i go false none is = go none is
 
   end_within : (fuel i : ℕ) → length olds ≤ i + fuel → IsSweeping by position olds news first stored i
       → [] ≡ positions_from by.basic i (drop i olds)
-      → swept by position 0 first olds ≡ Ok (record { equations = set news position by; count = stored })
+      → sweep_from by position 0 first olds ≡ Ok (record { equations = set news position by; count = stored })
   end_within zero i all h listed = sweeping-end by position olds news first stored i h (omega (arith, all))
   end_within (suc fuel) i all h listed =
       by_place (λ inside none is. end_within fuel (i + 1) (omega (arith, all)) (sweeping_none i h inside none) is) (cases_lt i (length olds))
     where
       by_place : (i < length olds → has_term by.basic (equation_at olds i) ≡ false → [] ≡ positions_from by.basic (i + 1) (drop (i + 1) olds)
-          → swept by position 0 first olds ≡ Ok (record { equations = set news position by; count = stored }))
-          → (i < length olds) ⊎ (length olds ≤ i) → swept by position 0 first olds ≡ Ok (record { equations = set news position by; count = stored })
+          → sweep_from by position 0 first olds ≡ Ok (record { equations = set news position by; count = stored }))
+          → (i < length olds) ⊎ (length olds ≤ i) → sweep_from by position 0 first olds ≡ Ok (record { equations = set news position by; count = stored })
       by_place go (inl inside) = end_by i (go inside) (has_term by.basic (equation_at olds i)) refl (listed ∙ positions_step i inside)
       by_place go (inr past) = sweeping-end by position olds news first stored i h past
 
-  pub between-end : IsBetween by position olds news first stored [] → swept by position 0 first olds ≡ Ok (record { equations = set news position by; count = stored })
+  pub between-end : IsBetween by position olds news first stored [] → sweep_from by position 0 first olds ≡ Ok (record { equations = set news position by; count = stored })
   between-end h = end_within (length olds) h.reached (omega arith) h.sweeping h.listed
 
 -- the listed position at this place
@@ -240,7 +240,7 @@ between-at by position olds news first stored listed place inside h =
 
 pub between-past : (by : Equation) (position : ℕ) (olds news : List Equation) (first stored : ℕ) (listed : List ℕ) (place : ℕ) → length listed ≤ place
     → IsBetween by position olds news first stored (drop place listed)
-    → swept by position 0 first olds ≡ Ok (record { equations = set news position by; count = stored })
+    → sweep_from by position 0 first olds ≡ Ok (record { equations = set news position by; count = stored })
 between-past by position olds news first stored listed place past h =
     between-end by position olds news first stored (subst (IsBetween by position olds news first stored) (drop_all place listed past) h)
 
@@ -251,7 +251,7 @@ between-start by position olds first listed is = record { reached = 0; sweeping 
 -- the listed equation is treated
 pub between-more : (by : Equation) (position : ℕ) (olds news : List Equation) (first stored i : ℕ) (left : List ℕ)
     → IsAt by position olds news first stored i left → (new : Equation) (count : ℕ) → i ≢ position
-    → treated by stored (equation_at olds i) ≡ Ok (record { equation = new; count = count })
+    → treatment by stored (equation_at olds i) ≡ Ok (record { equation = new; count = count })
     → IsBetween by position olds (set news i new) first count left
 between-more by position olds news first stored i left h new count apart made =
     record {

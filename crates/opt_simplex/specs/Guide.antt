@@ -1,5 +1,5 @@
 -- What the guide that asks the simplex answers on a box.
-use Rattle.std.specs.Prelude.{◌≡◌, ℕ, List, [], Bool, not, ℤ, pos, Option, Some, None}
+use Rattle.std.specs.Prelude.{◌≡◌, ℕ, List, [], Bool, not, ℤ, pos, ◌+ℤ◌, if◌then◌else◌, Option, Some, None}
 use Rattle.std.specs.List.{position}
 use Rattle.std.specs.Ordering.{int_eq}
 use Rattle.std.specs.Int.{int_div_euclid, int_rem_euclid}
@@ -34,6 +34,10 @@ is_fractional f = not (int_eq (int_rem_euclid f.0 f.1) (pos 0))
 -- the greatest whole number that is at most the fraction
 abbrev pub floor_of : ℤ × ℤ → ℤ
 floor_of f = int_div_euclid f.0 f.1
+
+-- the least whole number that is at least the fraction
+abbrev pub ceiling_of : ℤ × ℤ → ℤ
+ceiling_of f = if is_fractional f then floor_of f +ℤ pos 1 else floor_of f
 
 -- the first quantity whose value is not whole
 abbrev pub first_fractional : List (ℤ × ℤ) → Option ℕ
@@ -70,6 +74,10 @@ IsFirstCut s box j t = (j, t) ≡ first_cut (fractions_of (guide_end s box))
 pub record Subject : Type 0 where
   pub system : System
   pub range : Range
+
+-- the end of the system on the box
+abbrev pub end_on : Subject → LpEnd
+end_on subject = guide_end subject.system subject.range
 
 -- the end is that of the system on the box, and true of it
 pub record IsEndOn (s : System) (box : Range) (end : LpEnd) : Type 0 where

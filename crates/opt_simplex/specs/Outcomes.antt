@@ -15,8 +15,8 @@ use Rattle.opt_simplex.specs.declared.simplex.Look.TheVariants.{Ends as SeenEnd,
 use Rattle.opt_simplex.specs.Variables.{Variables}
 use Rattle.opt_simplex.specs.Tableau.{Tableau, equation_at}
 use Rattle.opt_simplex.specs.Choice.{Leaving}
-use Rattle.opt_simplex.specs.Pivot.{pivoted}
-use Rattle.opt_simplex.specs.Rule.{Look, Ends, Enters, stopped}
+use Rattle.opt_simplex.specs.Pivot.{next_tableau}
+use Rattle.opt_simplex.specs.Rule.{Look, Ends, Enters, stop}
 
 -- the variable of the equation at the place leaves
 abbrev pub leaving_at : List Equation → Place → Leaving
@@ -41,12 +41,12 @@ pivot_fault NoMemory = OutOfMemory
 -- the pivot's outcome: the next tableau, or the end where it stops
 abbrev pub pivot_of : Variables → ℕ → Tableau → Result Tableau Why → Result Tableau LpEnd
 pivot_of v done t (Ok next) = Ok next
-pivot_of v done t (Err why) = Err (stopped v why done t)
+pivot_of v done t (Err why) = Err (stop v why done t)
 
 -- what a turn makes of what the tableau asks for: the next tableau, or the end
 abbrev pub turn_of : Variables → ℕ → Tableau → Look → Result Tableau LpEnd
 turn_of v done t (Ends end) = Err end
-turn_of v done t (Enters l col) = pivot_of v done t (pivoted t l col)
+turn_of v done t (Enters l col) = pivot_of v done t (next_tableau t l col)
 
 -- the end that the turn reaches, or else the tableau after it
 abbrev pub Turns : Option LpEnd → Tableau → Result Tableau LpEnd → Type 0

@@ -4,12 +4,12 @@ use Rattle.opt_base.specs.declared.limits.TheConstants.{QUANTITY_LIMIT, ROW_LIMI
 use Rattle.opt_sums.specs.Entries.{AllBelow, coef}
 use Rattle.opt_frac.specs.Divisors.{Fits}
 use Rattle.opt_frac.specs.Equations.{Equation, HasTerm}
-use Rattle.opt_frac.specs.Elimination.{turned}
+use Rattle.opt_frac.specs.Elimination.{solution_for}
 use Rattle.opt_simplex.specs.Variables.{Variables}
 use Rattle.opt_simplex.specs.Tableau.{Tableau, equation_at}
 use Rattle.opt_simplex.specs.Choice.{Leaving}
-use Rattle.opt_simplex.specs.Pivot.{pivoted}
-use Rattle.opt_simplex.specs.Rule.{Enters, looked}
+use Rattle.opt_simplex.specs.Pivot.{next_tableau}
+use Rattle.opt_simplex.specs.Rule.{Enters, look_of}
 
 -- each variable has a low and a place for a high, and these fit; there are not too many quantities, and of rows' sums
 pub record AreKept (v : Variables) : Type 0 where
@@ -45,14 +45,14 @@ pub record IsOpenTo (by e : Equation) : Type 0 where
 pub record MayPivot (t : Tableau) (position col : ℕ) : Type 0 where
   pub inside : position < length t.equations
   pub term : HasTerm (equation_at t.equations position) col
-  pub others : (i : ℕ) → i < length t.equations → i ≢ position → IsOpenTo (turned col (equation_at t.equations position)) (equation_at t.equations i)
-  pub cost : IsOpenTo (turned col (equation_at t.equations position)) t.cost
+  pub others : (i : ℕ) → i < length t.equations → i ≢ position → IsOpenTo (solution_for col (equation_at t.equations position)) (equation_at t.equations i)
+  pub cost : IsOpenTo (solution_for col (equation_at t.equations position)) t.cost
   pub unused : (i : ℕ) → i < length t.equations
       → All (λ term. term.0 ≢ (equation_at t.equations position).basic) (equation_at t.equations i).terms
 
 -- the pivot, where it is made, leaves the tableau shaped
 abbrev pub StaysShaped : ℕ → Tableau → Leaving → ℕ → Type 0
-StaysShaped n t l col = (next : Tableau) → pivoted t l col ≡ Ok next → length next.equations ≡ length t.equations → IsShaped n next
+StaysShaped n t l col = (next : Tableau) → next_tableau t l col ≡ Ok next → length next.equations ≡ length t.equations → IsShaped n next
 
 -- the term may be chosen: its coefficient is not 0 and fits
 pub record IsChoice (term : ℕ × ℤ) : Type 0 where
@@ -61,8 +61,8 @@ pub record IsChoice (term : ℕ × ℤ) : Type 0 where
 
 -- where the tableau asks for a pivot, it may be made
 abbrev pub MayTurn : Variables → ℕ → Tableau → Type 0
-MayTurn v done t = (l : Leaving) (col : ℕ) → looked v done t ≡ Enters l col → MayPivot t l.position col
+MayTurn v done t = (l : Leaving) (col : ℕ) → look_of v done t ≡ Enters l col → MayPivot t l.position col
 
 -- where the tableau asks for a pivot, the next one is shaped
 abbrev pub MayGoOn : Variables → ℕ → Tableau → Type 0
-MayGoOn v done t = (l : Leaving) (col : ℕ) → looked v done t ≡ Enters l col → StaysShaped (length v.low) t l col
+MayGoOn v done t = (l : Leaving) (col : ℕ) → look_of v done t ≡ Enters l col → StaysShaped (length v.low) t l col

@@ -3,6 +3,7 @@ ghost use Rattle.opt_system.specs.Ranges.{LiesIn};
 ghost use Rattle.opt_system.specs.Cuts.{IsCut};
 ghost use Rattle.opt_bound.specs.Multipliers.{IsAdmissible};
 ghost use Rattle.opt_simplex.specs.Kept.{IsFraction};
+ghost use Rattle.opt_simplex.specs.Soundness.{IsSound};
 ghost use Rattle.opt_simplex.specs.Guide.{IsClippedEnd, IsFirstCut, multipliers_of, fractions_of, first_fractional, guide_end};
 
 use crate::end::LpEnd;
@@ -54,6 +55,14 @@ impl BoxEnd {
         ensures { IsTrue result ↔ (self.now ≡ record { system = system.now; range = range.now }) }
     {
         self.range == *range && self.system == *system
+    }
+
+    /// The end.
+    pub(crate) fn end(&self) -> &LpEnd
+        ensures value { result.now ≡ guide_end self.now.system self.now.range }
+        ensures sound { IsSound self.now.system self.now.range result.now }
+    {
+        &self.end
     }
 
     /// The clip of the end's multipliers.

@@ -1,11 +1,13 @@
-ghost use Rattle.std.specs.Prelude.{◌≡◌, ◌≤◌, None, Some, IfOk, IfSome, OnOk};
+ghost use Rattle.std.specs.Prelude.{◌≡◌, ◌≤◌, None, Some, IfOk, IfSome, OnOk, option_map};
 ghost use Rattle.opt_system.specs.Ranges.{LiesIn};
 ghost use Rattle.opt_system.specs.Cuts.{IsCut};
 ghost use Rattle.opt_bound.specs.Multipliers.{IsAdmissible};
 ghost use Rattle.opt_guide.specs.Relations.{AllowsSame};
-ghost use Rattle.opt_simplex.specs.Guide.{IsClippedEnd, IsNoCandidate, IsFirstCut, fractions_of, first_fractional, guide_end};
+ghost use Rattle.opt_simplex.specs.Soundness.{IsSound};
+ghost use Rattle.opt_simplex.specs.Guide.{IsClippedEnd, IsNoCandidate, IsFirstCut, fractions_of, end_on, first_fractional, guide_end};
 
 use crate::box_end::BoxEnd;
+use crate::end::LpEnd;
 use opt_base::{OutOfMemory, Point};
 use opt_bound::Mult;
 use opt_guide::Guide;
@@ -54,6 +56,27 @@ impl SimplexGuide {
             }
         }
         BoxEnd::new(self.alloc, system, range)
+    }
+
+    /// Solves the system on the box, which lies within its root, unless that was the last solve.
+    pub fn solve(&mut self, system: &System, range: &Range) -> Result<(), OutOfMemory>
+        requires { LiesIn system.now.root range.now }
+        ensures { OnOk result (self.new ≡ Some (record { system = system.now; range = range.now })) }
+    {
+        let end = self.take(system, range)?;
+        self.last = Some(end);
+        Ok(())
+    }
+
+    /// The end of the last solve, with at most 20,000 pivots, where there was one.
+    pub fn last_end(&self) -> Option<&LpEnd>
+        ensures value { option_map (λ end. end.now) result ≡ option_map end_on self.now }
+        ensures sound { IfSome self.now (λ s. IsSound s.system s.range (end_on s)) }
+    {
+        match &self.last {
+            Some(last) => Some(last.end()),
+            None => None,
+        }
     }
 }
 

@@ -2,7 +2,7 @@ ghost use Rattle.std.specs.Prelude.{◌≡◌, ◌≢◌, ◌<◌, ◌≤◌, �
 ghost use Rattle.opt_frac.specs.Equations.{HasTerm, IsReduced};
 ghost use Rattle.opt_simplex.specs.Tableau.{equation_at};
 ghost use Rattle.opt_simplex.specs.Columns.{AreColumns, positions_from};
-ghost use Rattle.opt_simplex.specs.Pivot.{swept, treated, within_fill};
+ghost use Rattle.opt_simplex.specs.Pivot.{sweep_from, treatment, within_fill};
 ghost use Rattle.opt_simplex.specs.Outcomes.{Makes};
 ghost use Rattle.opt_simplex.specs.Shape.{IsOpenTo};
 ghost use Rattle.opt_simplex.specs.declared.pivot.PivotFault.TheVariants.{OutOfMemory as MemoryFault, Stops};
@@ -81,7 +81,7 @@ fn treat(
     requires ready { IsOpenTo turned.now equation.old }
     requires term { HasTerm equation.old turned.now.basic }
     ensures treated { Makes (λ count. record { equation = equation.new; count = count })
-        result (treated turned.now stored equation.old) }
+        result (treatment turned.now stored equation.old) }
     ensures lent { OnOk result (buffer.new.items ≡ equation.old.terms) }
     ensures reduced { IsReduced equation.old }
     ensures few { IfOk result (λ count. count ≤ COUNT_LIMIT) }
@@ -102,7 +102,7 @@ pub(crate) fn treat_cost(
     requires few { stored ≤ COUNT_LIMIT }
     requires ready { IsOpenTo turned.now cost.old }
     ensures treated { Makes (λ count. record { equation = cost.new; count = count })
-        result (treated turned.now stored cost.old) }
+        result (treatment turned.now stored cost.old) }
     ensures unchanged { OnErr result (cost.new ≡ cost.old) }
 {
     if cost.coefficient(turned.basic()) == 0 {
@@ -134,7 +134,7 @@ pub(crate) fn sweep(
     requires counted { sum_by (λ e. length e.terms) equations.old.items ≤ first }
     ensures swept { Makes
         (λ count. record { equations = slice_set equations.new.items position turned.now; count = count }) result
-        (swept turned.now position 0 first equations.old.items) }
+        (sweep_from turned.now position 0 first equations.old.items) }
     ensures few { IfOk result (λ count. count ≤ COUNT_LIMIT) }
     ensures same_length { length equations.new.items ≡ length equations.old.items }
     ensures columns { OnOk result (AreColumns (length columns.old) equations.new.items columns.new) }

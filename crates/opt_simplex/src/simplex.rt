@@ -3,8 +3,8 @@ ghost use Rattle.opt_system.specs.Ranges.{LiesIn};
 ghost use Rattle.opt_frac.specs.Divisors.{Fits};
 ghost use Rattle.opt_simplex.specs.Choice.{entering_from};
 ghost use Rattle.opt_simplex.specs.Outcomes.{Turns, leaving_at, look_at, pivot_of, turn_of};
-ghost use Rattle.opt_simplex.specs.Pivot.{pivoted};
-ghost use Rattle.opt_simplex.specs.Rule.{Ends, end_of, entering as entering_of, leaving as leaving_of, looked, stopped as stopped_of, turns};
+ghost use Rattle.opt_simplex.specs.Pivot.{next_tableau};
+ghost use Rattle.opt_simplex.specs.Rule.{Ends, end_of, entering as entering_of, leaving as leaving_of, look_of, stop as stop_of, turns};
 ghost use Rattle.opt_simplex.specs.Shape.{IsShaped, MayGoOn, MayPivot, MayTurn, StaysShaped};
 ghost use Rattle.opt_simplex.specs.Soundness.{IsSound};
 ghost use Rattle.opt_simplex.specs.Tableau.{stored as stored_of};
@@ -71,7 +71,7 @@ fn stop(
     why: Why,
     done: u32,
 ) -> Result<LpEnd, OutOfMemory>
-    ensures { IfOk result (λ end. end ≡ stopped_of variables.now why done tableau.now) }
+    ensures { IfOk result (λ end. end ≡ stop_of variables.now why done tableau.now) }
 {
     let raw = cost_multipliers(alloc, variables.quantities(), tableau.cost())?;
     Ok(LpEnd::Stopped { why, done, raw })
@@ -142,7 +142,7 @@ fn choose(
     requires shaped { IsShaped (length variables.now.low) tableau.now }
     requires noted { AreNoted variables.now tableau.now values.now }
     requires fit { values.now.wide ≡ false }
-    ensures { IfOk result (λ look. look_at tableau.now.equations look ≡ looked variables.now done tableau.now) }
+    ensures { IfOk result (λ look. look_at tableau.now.equations look ≡ look_of variables.now done tableau.now) }
 {
     match choose_leaving(tableau.equations(), values.sides()) {
         Some(leaving) => enter(alloc, variables, tableau, leaving, done),
@@ -160,7 +160,7 @@ fn ask(
 ) -> Result<Look, OutOfMemory>
     requires shaped { IsShaped (length variables.now.low) tableau.now }
     requires noted { AreNoted variables.now tableau.now values.now }
-    ensures { IfOk result (λ look. look_at tableau.now.equations look ≡ looked variables.now done tableau.now) }
+    ensures { IfOk result (λ look. look_at tableau.now.equations look ≡ look_of variables.now done tableau.now) }
 {
     if values.is_wide() {
         return Ok(Look::Ends(stop(alloc, variables, tableau, Why::Wide, done)?));
@@ -188,7 +188,7 @@ fn pivot(
     requires columns { AreColumns (length variables.now.low) tableau.old.equations work.old.columns }
     ensures pivoted { IfOk result (λ end. Turns end tableau.new
         (pivot_of variables.now done tableau.old
-        (pivoted tableau.old (leaving_at tableau.old.equations leaving) col))) }
+        (next_tableau tableau.old (leaving_at tableau.old.equations leaving) col))) }
     ensures same_length { length tableau.new.equations ≡ length tableau.old.equations }
     ensures noted { IfOk result (λ end. IfNone end (AreNoted variables.now tableau.new work.new.values)) }
     ensures stored { IfOk result (λ end. IfNone end (work.new.stored ≡ stored_of tableau.new)) }
@@ -230,7 +230,7 @@ fn turn(
     requires noted { AreNoted variables.now tableau.old work.old.values }
     requires columns { AreColumns (length variables.now.low) tableau.old.equations work.old.columns }
     ensures turned { IfOk result (λ end. Turns end tableau.new
-        (turn_of variables.now done tableau.old (looked variables.now done tableau.old))) }
+        (turn_of variables.now done tableau.old (look_of variables.now done tableau.old))) }
     ensures same_length { length tableau.new.equations ≡ length tableau.old.equations }
     ensures noted { IfOk result (λ end. IfNone end (AreNoted variables.now tableau.new work.new.values)) }
     ensures stored { IfOk result (λ end. IfNone end (work.new.stored ≡ stored_of tableau.new)) }

@@ -1,7 +1,7 @@
 ghost use Rattle.std.specs.Prelude.{◌≡◌, ◌≤◌, ◌*◌, All, length, sum_by, IfOk, OnErr, OnOk};
 ghost use Rattle.opt_simplex.specs.Tableau.{start as start_of, stored as stored_of};
 ghost use Rattle.opt_simplex.specs.Columns.{AreColumns, positions_from};
-ghost use Rattle.opt_simplex.specs.Pivot.{pivoted};
+ghost use Rattle.opt_simplex.specs.Pivot.{next_tableau};
 ghost use Rattle.opt_simplex.specs.Outcomes.{Makes, leaving_at};
 ghost use Rattle.opt_simplex.specs.Shape.{IsAmong, IsShaped, MayPivot};
 
@@ -101,7 +101,7 @@ impl Tableau {
         requires few { stored ≤ COUNT_LIMIT }
         requires columns { AreColumns (length self.old.at_high) self.old.equations columns.old }
         ensures pivoted { Makes (λ change. self.new) result
-            (pivoted self.old (leaving_at self.old.equations leaving) col) }
+            (next_tableau self.old (leaving_at self.old.equations leaving) col) }
         ensures listed { IfOk result (λ change. change.positions.items ≡ positions_from col 0 self.old.equations) }
         ensures stored { IfOk result (λ change. change.stored ≡ stored_of self.new) }
         ensures few { IfOk result (λ change. change.stored ≤ COUNT_LIMIT) }

@@ -1,5 +1,5 @@
-use crate::SimplexGuide;
 use crate::tests::reading::system;
+use crate::{LpEnd, SimplexGuide};
 use opt_base::{ModelFault, OutOfMemory};
 use opt_guide::Guide;
 use opt_system::{Range, System};
@@ -93,6 +93,50 @@ fn systems_with_one_root_are_asked_in_turn(rt: HostRuntime) -> Result<(), Fail> 
     ask(&rt, rt.alloc(), &mut guide, &parts, &PARTS_ANSWER)?;
     ask(&rt, rt.alloc(), &mut guide, &whole, &WHOLE_ANSWER)?;
     ask(&rt, rt.alloc(), &mut guide, &parts, &PARTS_ANSWER)?;
+    Ok(())
+}
+
+/// The floor and the ceiling of the first quantity that is not whole at the end on a part of the root, where there is one.
+fn parted(
+    rt: &impl Abort,
+    alloc: Global,
+    guide: &mut SimplexGuide,
+    system: &System,
+    high: i64,
+) -> Result<Option<(i128, i128)>, OutOfMemory> {
+    let range = part(rt, alloc, system, 0, high)?;
+    let within = range.lies_in(system.root());
+    assert!(rt; within);
+    guide.solve(system, &range)?;
+    match guide.last_end() {
+        Some(LpEnd::Optimal { point, .. }) => {
+            Ok(
+                point
+                    .first_fractional()
+                    .map(|j| (point.floor(j), point.ceiling(j))),
+            )
+        }
+        _ => Ok(None),
+    }
+}
+
+/// 175/3 rations, then no plan with at most 58; then 3/2, 7/3 behind it, and whole numbers.
+#[test]
+fn ends_are_lent(rt: HostRuntime) -> Result<(), Fail> {
+    let supply = read(&rt, rt.alloc(), SUPPLY)?;
+    let parts = read(&rt, rt.alloc(), PARTS)?;
+    let whole = read(&rt, rt.alloc(), WHOLE)?;
+    let mut guide = SimplexGuide::new(rt.alloc());
+    assert_eq!(rt;
+        parted(&rt, rt.alloc(), &mut guide, &supply, 60)?,
+        Some((58, 59))
+    );
+    assert_eq!(rt; parted(&rt, rt.alloc(), &mut guide, &supply, 58)?, None);
+    assert_eq!(rt;
+        parted(&rt, rt.alloc(), &mut guide, &parts, 7)?,
+        Some((1, 2))
+    );
+    assert_eq!(rt; parted(&rt, rt.alloc(), &mut guide, &whole, 7)?, None);
     Ok(())
 }
 

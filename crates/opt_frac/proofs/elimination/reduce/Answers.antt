@@ -2,8 +2,8 @@ use Rattle.std.proofs.Common.{◌≡◌, ◌<◌, ◌≤◌, ◌^◌, length, un
 use Rattle.std.proofs.lemmas.Int.{ints, to_z-of_z}
 use Rattle.std.proofs.lemmas.List.{with_items_is}
 use mir.Syntax.{w128}
-use Rattle.opt_frac.specs.Divisors.{divided, gcd_with}
-use Rattle.opt_frac.proofs.DivisorLemmas.{gcd_with_pos, gcd_with_le, divided-one}
+use Rattle.opt_frac.specs.Divisors.{quotients, gcd_with}
+use Rattle.opt_frac.proofs.DivisorLemmas.{gcd_with_pos, gcd_with_le, quotients-one}
 use Rattle.opt_frac.proofs.elimination.reduce.Goals as goal
 use Rattle.opt_frac.proofs.elimination.reduce.Goals.{After-common_divisor-divisor, then-divisor-gt1, else-divisor-gt1}
 
@@ -49,8 +49,8 @@ returns-clause-terms c =
           rw (w.terms-is, ← divisor first)
           (with_items_is c.args.terms.now w.divide.new.terms (omega (arith, w.divide.auto.terms, ap length w.deref_mut.ensures.value, c.args.terms.now.ok.0))
           ∙ w.divide.ensures
-          ∙ ap (divided c.common_divisor-divisor.result) w.deref_mut.ensures.value)
+          ∙ ap (quotients c.common_divisor-divisor.result) w.deref_mut.ensures.value)
       | else-divisor-gt1 w ↦
           let one : c.common_divisor-divisor.result ≡ 1 = omega (arith, positive first, w.if-divisor-gt1.false) in
-          rw (w.terms-is, ← divisor first, one) (sym (divided-one c.args.terms.now.items))
+          rw (w.terms-is, ← divisor first, one) (sym (quotients-one c.args.terms.now.items))
     ]

@@ -2,38 +2,38 @@ use Rattle.std.proofs.Common.{refl, sym, ◌∙◌, arith}
 use Rattle.std.proofs.lemmas.List.{append-nil}
 use Rattle.std.proofs.lemmas.Result.{err_from_is_err_and}
 use Rattle.opt_frac.specs.Divisors.{fits}
-use Rattle.opt_frac.specs.Merging.{scaled_at}
+use Rattle.opt_frac.specs.Merging.{multiple_at}
 use Rattle.opt_frac.proofs.MergeLemmas.{keeps_more, keeps_unfit}
 use Rattle.opt_frac.proofs.RestLemmas.{rest_skip, rest_take, rest_done}
 use Rattle.opt_frac.proofs.WritesLemmas.{Writes-whole}
 use Rattle.opt_frac.proofs.merging.push_rest.Goals as goal
-use Rattle.opt_frac.proofs.merging.push_rest.Goals.{then-scaled-i+in_ok-push_term, else-scaled-i}
+use Rattle.opt_frac.proofs.merging.push_rest.Goals.{then-multiple-i+in_ok-push_term, else-multiple-i}
 
 pub loop-i-init : goal.loop-i-init
 loop-i-init c = (refl, refl)
 
 pub loop-i-preserved : goal.loop-i-preserved
 loop-i-preserved c =
-    elim c.if-scaled-i.branch [
-      | then-scaled-i+in_ok-push_term w ↦
+    elim c.if-multiple-i.branch [
+      | then-multiple-i+in_ok-push_term w ↦
           rw (w.sums-is, w.in_ok-push_term.ensures.1)
-          (keeps_more c.loop-i.sums.items (scaled_at c.args.scaled.factor c.args.scaled.terms.now c.loop-i.i) _ _ _ w.in_ok-push_term.ensures.0
-          (rw (rest_take c.args.scaled.factor c.args.col c.args.scaled.terms.now c.loop-i.i c.loop-i-test.true w.if-scaled-i.true) at c.loop-i.invariant))
-      | else-scaled-i w ↦
-          rw (w.sums-is, ← rest_skip c.args.scaled.factor c.args.col c.args.scaled.terms.now c.loop-i.i c.loop-i-test.true w.if-scaled-i.false) c.loop-i.invariant
+          (keeps_more c.loop-i.sums.items (multiple_at c.args.multiple.factor c.args.multiple.terms.now c.loop-i.i) _ _ _ w.in_ok-push_term.ensures.0
+          (rw (rest_take c.args.multiple.factor c.args.col c.args.multiple.terms.now c.loop-i.i c.loop-i-test.true w.if-multiple-i.true) at c.loop-i.invariant))
+      | else-multiple-i w ↦
+          rw (w.sums-is, ← rest_skip c.args.multiple.factor c.args.col c.args.multiple.terms.now c.loop-i.i c.loop-i-test.true w.if-multiple-i.false) c.loop-i.invariant
     ]
 
 pub returns-in_err-push_term : goal.returns-in_err-push_term
 returns-in_err-push_term c =
     let fault = err_from_is_err_and c.from_residual.result c.from_residual.ensures.1 in
-    let term = scaled_at c.args.scaled.factor c.args.scaled.terms.now c.loop-i.i in
+    let term = multiple_at c.args.multiple.factor c.args.multiple.terms.now c.loop-i.i in
     rw (fault.1, fault.2)
     (Writes-whole (Unit {0}) (Unit {0}) c.in_err-push_term.field-0.0 (fits term.1) _ _ _ _ _ _ _
-    (λ unfit. keeps_unfit c.loop-i.sums.items term _ _ _ unfit (rw (rest_take c.args.scaled.factor c.args.col c.args.scaled.terms.now c.loop-i.i c.loop-i-test.true c.if-scaled-i.true) at c.loop-i.invariant))
+    (λ unfit. keeps_unfit c.loop-i.sums.items term _ _ _ unfit (rw (rest_take c.args.multiple.factor c.args.col c.args.multiple.terms.now c.loop-i.i c.loop-i-test.true c.if-multiple-i.true) at c.loop-i.invariant))
     c.in_err-push_term.ensures)
 
 pub returns : goal.returns
 returns c =
-    let done = rest_done c.args.scaled.factor c.args.col c.args.scaled.terms.now c.loop-i.i (omega (arith, c.loop-i-test.false)) in
+    let done = rest_done c.args.multiple.factor c.args.col c.args.multiple.terms.now c.loop-i.i (omega (arith, c.loop-i-test.false)) in
     let is = rw done at c.loop-i.invariant in
     (sym is.1, sym (append-nil c.loop-i.sums.items) ∙ is.0)

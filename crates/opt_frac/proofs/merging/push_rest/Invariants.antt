@@ -6,5 +6,5 @@ use Rattle.opt_frac.proofs.merging.push_rest.Given as goal
 
 abbrev pub invariant-loop-i : goal.invariant-loop-i
 invariant-loop-i l =
-    let all = rest_of l.scaled.factor l.col l.scaled.terms.now l.from in
-    Keeps l.sums.items (rest_of l.scaled.factor l.col l.scaled.terms.now l.i) (l.initial.sums.items ++ all) (all_fit all)
+    let all = rest_of l.multiple.factor l.col l.multiple.terms.now l.from in
+    Keeps l.sums.items (rest_of l.multiple.factor l.col l.multiple.terms.now l.i) (l.initial.sums.items ++ all) (all_fit all)

@@ -1,7 +1,7 @@
 use Rattle.std.proofs.Common.{◌<◌, ◌^◌, unsigned_abs, FitsSigned, ap, arith}
 use Rattle.std.proofs.lemmas.Int.{to_z-of_z}
 use mir.Syntax.{w128}
-use Rattle.opt_frac.proofs.TurnedLemmas.{fits-coef}
+use Rattle.opt_frac.proofs.SolutionLemmas.{fits-coef}
 use Rattle.opt_simplex.proofs.choice.cost_size.Goals as goal
 
 pub size-requires : goal.size-requires

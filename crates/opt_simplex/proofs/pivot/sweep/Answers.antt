@@ -6,7 +6,7 @@ use Rattle.opt_simplex.proofs.PositionSteps.{has-some}
 use Rattle.std.proofs.lemmas.Result.{err_from_is_err_and}
 use Rattle.opt_simplex.specs.Shape.{IsOpenTo}
 use Rattle.opt_simplex.specs.Tableau.{equation_at}
-use Rattle.opt_simplex.specs.Pivot.{treated, swept}
+use Rattle.opt_simplex.specs.Pivot.{treatment, sweep_from}
 use Rattle.opt_simplex.proofs.SweepSteps.{IsAt, equation-same, sweeping-stops, between-at, between-past, between-more, between-over, Makes-err}
 use Rattle.opt_simplex.proofs.pivot.sweep.Goals as goal
 use Rattle.opt_simplex.proofs.pivot.sweep.Goals.{After-index_mut, then-i-position+in_ok-stored+in_ok-change, else-i-position}
@@ -52,8 +52,8 @@ returns-in_err-stored-clause-swept c =
     let first = (goal.at.returns-in_err-stored-clause-swept c).After-index_mut in
     let fault = err_from_is_err_and c.from_residual.result c.from_residual.ensures.1 in
     rw (fault.1, fault.2)
-    (Makes-err c.in_err-stored.field-0.0 (treated c.args.turned.now c.loop-place.stored c.index_mut.result.now) (swept c.args.turned.now c.args.position 0 c.args.first c.args.equations.now.items)
-    (λ why h. sweeping-stops c.args.turned.now c.args.position c.args.equations.now.items c.loop-place.equations.items c.args.first c.loop-place.stored (get_or c.args.listed.now c.loop-place.place-index 0) (here first).sweeping why (here first).inside c.if-i-position.true (ap (treated c.args.turned.now c.loop-place.stored) (sym (same first)) ∙ h))
+    (Makes-err c.in_err-stored.field-0.0 (treatment c.args.turned.now c.loop-place.stored c.index_mut.result.now) (sweep_from c.args.turned.now c.args.position 0 c.args.first c.args.equations.now.items)
+    (λ why h. sweeping-stops c.args.turned.now c.args.position c.args.equations.now.items c.loop-place.equations.items c.args.first c.loop-place.stored (get_or c.args.listed.now c.loop-place.place-index 0) (here first).sweeping why (here first).inside c.if-i-position.true (ap (treatment c.args.turned.now c.loop-place.stored) (sym (same first)) ∙ h))
     c.in_err-stored.ensures.treated)
 
 pub loop-place-preserved : goal.loop-place-preserved
@@ -65,7 +65,7 @@ loop-place-preserved c =
           w.index_mut.ensures.value
           ∙ equation-same c.args.equations.now.items c.loop-place.equations.items (get_or c.args.listed.now c.loop-place.place-index 0) w.index_mut.result.now at.sweeping.rest
           ∙ get_or_default c.args.equations.now.items (get_or c.args.listed.now c.loop-place.place-index 0) w.index_mut.result.now (record { basic = 0; lead = pos 1; terms = [] }) at.inside in
-          let next = between-more c.args.turned.now c.args.position c.args.equations.now.items c.loop-place.equations.items c.args.first c.loop-place.stored (get_or c.args.listed.now c.loop-place.place-index 0) (drop (c.loop-place.place-index + 1) c.args.listed.now) at w.treat.new.equation w.in_ok-stored.stored w.if-i-position.true (ap (treated c.args.turned.now c.loop-place.stored) (sym is) ∙ w.in_ok-stored.ensures.treated) in
+          let next = between-more c.args.turned.now c.args.position c.args.equations.now.items c.loop-place.equations.items c.args.first c.loop-place.stored (get_or c.args.listed.now c.loop-place.place-index 0) (drop (c.loop-place.place-index + 1) c.args.listed.now) at w.treat.new.equation w.in_ok-stored.stored w.if-i-position.true (ap (treatment c.args.turned.now c.loop-place.stored) (sym is) ∙ w.in_ok-stored.ensures.treated) in
           let inside : get_or c.args.listed.now c.loop-place.place-index 0 < length c.loop-place.equations.items = omega (arith, at.inside, c.loop-place.invariant.same_length) in
           let before : (equation_at c.loop-place.equations.items (get_or c.args.listed.now c.loop-place.place-index 0)).terms ≡ w.deref.result.now =
           ap (λ (e : Equation). e.terms)

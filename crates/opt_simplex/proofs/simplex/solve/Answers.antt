@@ -6,10 +6,10 @@ use Rattle.opt_simplex.specs.Variables.{Variables, variables_of}
 use Rattle.opt_simplex.specs.declared.limits.TheConstants.{COUNT_LIMIT}
 use Rattle.opt_simplex.specs.Tableau.{stored}
 use Rattle.opt_simplex.specs.Columns.{AreColumns}
-use Rattle.opt_simplex.specs.Rule.{looked, turns, end_of}
+use Rattle.opt_simplex.specs.Rule.{look_of, turns, end_of}
 use Rattle.opt_simplex.specs.Outcomes.{turn_of}
 use Rattle.opt_simplex.specs.Soundness.{IsSound}
-use Rattle.opt_simplex.proofs.TurnSteps.{running-start, running-shaped, running-few, running-may, running-goes_on, running-next, running-ends, running-last, running-at, running-of, end-sound, turned-some, turned-none}
+use Rattle.opt_simplex.proofs.TurnSteps.{running-start, running-shaped, running-few, running-may, running-goes_on, running-next, running-ends, running-last, running-at, running-of, end-sound, turns-some, turns-none}
 use Rattle.opt_simplex.proofs.simplex.solve.Goals as goal
 
 pub new-requires-2-clause-shaped : goal.new-requires-2-clause-shaped
@@ -60,7 +60,7 @@ loop-done-preserved c =
           running-of c.args.system.now c.args.range.now c.args.pivots c.in_ok-variables.variables (c.loop-done.done + 1) c.turn.new.tableau
           (running-next c.args.system.now c.args.range.now c.in_ok-variables.ensures.limited c.in_ok-variables.ensures.ordered c.requires c.args.pivots c.in_ok-variables.variables c.loop-done.done c.loop-done.tableau c.turn.new.tableau
           (running-at c.args.system.now c.args.range.now c.args.pivots c.in_ok-variables.variables c.loop-done.done c.loop-done.tableau c.in_ok-variables.ensures.value c.loop-done.invariant.running) c.loop-done-test.true
-          (turned-none c.in_ok-end.field-0 c.turn.new.tableau (turn_of c.in_ok-variables.variables c.loop-done.done c.loop-done.tableau (looked c.in_ok-variables.variables c.loop-done.done c.loop-done.tableau)) c.in-None.is c.in_ok-end.ensures.turned)
+          (turns-none c.in_ok-end.field-0 c.turn.new.tableau (turn_of c.in_ok-variables.variables c.loop-done.done c.loop-done.tableau (look_of c.in_ok-variables.variables c.loop-done.done c.loop-done.tableau)) c.in-None.is c.in_ok-end.ensures.turned)
           c.in_ok-end.ensures.same_length);
       stored = subst (λ end. IfNone end (c.turn.new.work.stored ≡ stored c.turn.new.tableau)) c.in-None.is c.in_ok-end.ensures.stored;
       few = subst (λ end. IfNone end (c.turn.new.work.stored ≤ COUNT_LIMIT)) c.in-None.is c.in_ok-end.ensures.few;
@@ -76,14 +76,14 @@ pub returns-in-Some-clause-end : goal.returns-in-Some-clause-end
 returns-in-Some-clause-end c =
     running-ends c.args.system.now c.args.range.now c.in_ok-variables.ensures.limited c.in_ok-variables.ensures.ordered c.requires c.args.pivots c.in_ok-variables.variables c.loop-done.done c.loop-done.tableau c.in-Some.end
     (running-at c.args.system.now c.args.range.now c.args.pivots c.in_ok-variables.variables c.loop-done.done c.loop-done.tableau c.in_ok-variables.ensures.value c.loop-done.invariant.running) c.loop-done-test.true
-    (turned-some c.in_ok-end.field-0 c.in-Some.end c.turn.new.tableau (turn_of c.in_ok-variables.variables c.loop-done.done c.loop-done.tableau (looked c.in_ok-variables.variables c.loop-done.done c.loop-done.tableau)) c.in-Some.is c.in_ok-end.ensures.turned)
+    (turns-some c.in_ok-end.field-0 c.in-Some.end c.turn.new.tableau (turn_of c.in_ok-variables.variables c.loop-done.done c.loop-done.tableau (look_of c.in_ok-variables.variables c.loop-done.done c.loop-done.tableau)) c.in-Some.is c.in_ok-end.ensures.turned)
 
 pub returns-in-Some-clause-sound : goal.returns-in-Some-clause-sound
 returns-in-Some-clause-sound c =
     end-sound c.args.system.now c.args.range.now c.in_ok-variables.ensures.limited c.in_ok-variables.ensures.ordered c.requires c.args.pivots c.in-Some.end
     (running-ends c.args.system.now c.args.range.now c.in_ok-variables.ensures.limited c.in_ok-variables.ensures.ordered c.requires c.args.pivots c.in_ok-variables.variables c.loop-done.done c.loop-done.tableau c.in-Some.end
     (running-at c.args.system.now c.args.range.now c.args.pivots c.in_ok-variables.variables c.loop-done.done c.loop-done.tableau c.in_ok-variables.ensures.value c.loop-done.invariant.running) c.loop-done-test.true
-    (turned-some c.in_ok-end.field-0 c.in-Some.end c.turn.new.tableau (turn_of c.in_ok-variables.variables c.loop-done.done c.loop-done.tableau (looked c.in_ok-variables.variables c.loop-done.done c.loop-done.tableau)) c.in-Some.is c.in_ok-end.ensures.turned))
+    (turns-some c.in_ok-end.field-0 c.in-Some.end c.turn.new.tableau (turn_of c.in_ok-variables.variables c.loop-done.done c.loop-done.tableau (look_of c.in_ok-variables.variables c.loop-done.done c.loop-done.tableau)) c.in-Some.is c.in_ok-end.ensures.turned))
 
 pub returns-clause-end : goal.returns-clause-end
 returns-clause-end c =

@@ -2,7 +2,7 @@ use Rattle.std.proofs.Common.{◌≡◌, int_div, pos, unsigned_abs, FitsSigned,
 use Rattle.std.proofs.lemmas.Int.{to_z-of_z}
 use mir.Syntax.{w128}
 use mir.Val.{to_z, of_z}
-use Rattle.opt_frac.specs.Divisors.{divided, gcd_with}
+use Rattle.opt_frac.specs.Divisors.{quotients, gcd_with}
 use Rattle.opt_frac.specs.Equations.{Equation, lowest}
 use Rattle.opt_frac.proofs.ReducedLemmas.{reduced-lowest}
 use Rattle.opt_frac.proofs.equation.Equation.new.Goals as goal
@@ -23,7 +23,7 @@ made c =
     let first : c.reduce-lead.result ≡ int_div c.args.lead (pos (gcd_with (unsigned_abs c.args.lead) c.args.terms.now)) =
     rw (to_z-of_z w128 c.args.lead lead, c.in_ok-terms.ensures.items) at c.reduce-lead.ensures.lead
     in
-    let second : c.reduce-lead.new.terms.items ≡ divided (gcd_with (unsigned_abs c.args.lead) c.args.terms.now) c.args.terms.now =
+    let second : c.reduce-lead.new.terms.items ≡ quotients (gcd_with (unsigned_abs c.args.lead) c.args.terms.now) c.args.terms.now =
     rw (to_z-of_z w128 c.args.lead lead, c.in_ok-terms.ensures.items) at c.reduce-lead.ensures.terms
     in
     rw (to_z-of_z w128 c.reduce-lead.result (record { sfits = c.reduce-lead.type_inv }), first, second) refl

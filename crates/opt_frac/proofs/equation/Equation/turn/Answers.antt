@@ -5,10 +5,10 @@ use mir.Syntax.{w128}
 use mir.Val.{to_z, of_z}
 use Rattle.opt_sums.specs.Entries.{coef}
 use Rattle.opt_frac.specs.Equations.{Equation, SameValues}
-use Rattle.opt_frac.specs.Elimination.{negated_if, turned, whole, without}
-use Rattle.opt_frac.proofs.Laws.{same_values-turned}
+use Rattle.opt_frac.specs.Elimination.{negated_if, solution_for, whole, without}
+use Rattle.opt_frac.proofs.Laws.{same_values-solution_for}
 use Rattle.opt_frac.proofs.ReducedLemmas.{other_from}
-use Rattle.opt_frac.proofs.TurnedLemmas.{fits-coef, reduced-turned}
+use Rattle.opt_frac.proofs.SolutionLemmas.{fits-coef, reduced-solution_for}
 use Rattle.opt_frac.proofs.equation.Equation.turn.Goals as goal
 use Rattle.opt_frac.proofs.equation.Equation.turn.Goals.{After-coefficient-pivot, After-abs}
 
@@ -32,8 +32,8 @@ abs-requires c =
 abbrev solved_for : After-abs → Equation
 solved_for c = record { basic = c.args.col; lead = to_z w128 (of_z w128 c.abs.result); terms = c.in_ok-terms.terms.items }
 
-made : (c : After-abs) → solved_for c ≡ turned c.args.col c.args.self.now
-unfolding turned
+made : (c : After-abs) → solved_for c ≡ solution_for c.args.col c.args.self.now
+unfolding solution_for
 made c =
     let first = (goal.at.returns-clause-turned c).After-coefficient-pivot in
     let fits : FitsSigned w128 c.coefficient-pivot.result = fits_signed_from_abs w128 c.coefficient-pivot.result (pivot_fits first) in
@@ -42,7 +42,7 @@ made c =
     rw (to_z-of_z w128 c.abs.result (record { sfits = c.abs.type_inv }), lead, terms) refl
 
 pub invariant_of-result : goal.invariant_of-result
-invariant_of-result c = rw (made c) (reduced-turned c.args.col c.args.self.now c.coefficient-pivot.ensures.reduced c.requires)
+invariant_of-result c = rw (made c) (reduced-solution_for c.args.col c.args.self.now c.coefficient-pivot.ensures.reduced c.requires)
 
 pub returns-clause-turned : goal.returns-clause-turned
 returns-clause-turned c = made c
@@ -51,4 +51,4 @@ pub returns-clause-same_values : goal.returns-clause-same_values
 returns-clause-same_values c =
     let Same : Equation → Type 0 = SameValues c.args.self.now in
     subst Same (sym (made c))
-    (same_values-turned c.args.col c.args.self.now (other_from c.args.self.now c.args.col c.coefficient-pivot.ensures.reduced.solved c.requires) c.requires)
+    (same_values-solution_for c.args.col c.args.self.now (other_from c.args.self.now c.args.col c.coefficient-pivot.ensures.reduced.solved c.requires) c.requires)

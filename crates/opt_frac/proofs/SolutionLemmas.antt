@@ -9,9 +9,9 @@ use Rattle.opt_sums.specs.Entries.{coef, AllBelow}
 use Rattle.opt_sums.proofs.RisingLemmas.{size_coef, coef-get_or}
 use Rattle.opt_frac.specs.Divisors.{gcd_with, Fits}
 use Rattle.opt_frac.specs.Equations.{Equation, IsReduced, divisor_of, HasTerm}
-use Rattle.opt_frac.specs.Elimination.{more, negated_if, turned, whole, without}
+use Rattle.opt_frac.specs.Elimination.{more, negated_if, solution_for, whole, without}
 use Rattle.opt_frac.proofs.Divisions.{gcd_with-divides}
-use Rattle.opt_frac.proofs.NeatSteps.{IsNeat, neat-turned}
+use Rattle.opt_frac.proofs.NeatSteps.{IsNeat, neat-solution_for}
 use Rattle.opt_frac.proofs.ReducedLemmas.{bound_of, gcd_with-greatest, neat, other_from}
 use Rattle.opt_frac.proofs.Shapes.{rising-more}
 use Rattle.opt_frac.proofs.Steps.{coef-whole}
@@ -87,9 +87,9 @@ module _ (P : ℕ → Type 0) where
   sizes-back false es all = all
 
 -- ---- a turned equation
-fitting-turned : (col : ℕ) (e : Equation) → IsReduced e → All (λ a. Fits a.1) (turned col e).terms
-unfolding turned
-fitting-turned col e h =
+fitting-solution_for : (col : ℕ) (e : Equation) → IsReduced e → All (λ a. Fits a.1) (solution_for col e).terms
+unfolding solution_for
+fitting-solution_for col e h =
     sizes-negated (λ n. n < 2 ^ 127) (is_positive (coef e.terms col)) (without col (whole e))
     (All-filter (λ a. not (a.0 == col)) (λ a. Fits a.1) (whole e)
     (all_added (λ a. Fits a.1) (e.basic, neg_ℤ e.lead) e.terms h.solved.apart (rw (size_neg e.lead) h.solved.lead_fits) h.solved.fitting))
@@ -107,9 +107,9 @@ divides-whole x col e h term lead terms =
     rw value lead)
     terms
 
-divisor-turned : (col : ℕ) (e : Equation) → IsReduced e → HasTerm e col → divisor_of (turned col e) ≡ 1
-unfolding turned
-divisor-turned col e h term =
+divisor-solution_for : (col : ℕ) (e : Equation) → IsReduced e → HasTerm e col → divisor_of (solution_for col e) ≡ 1
+unfolding solution_for
+divisor-solution_for col e h term =
     let b : Bool = is_positive (coef e.terms col) in
     let x : ℕ = gcd_with (unsigned_abs (coef e.terms col)) (negated_if b (without col (whole e))) in
     let divides = gcd_with-divides (unsigned_abs (coef e.terms col)) (negated_if b (without col (whole e))) in
@@ -127,16 +127,16 @@ fits-coef k e h =
     in
     omega arith
 
-fits-lead : (col : ℕ) (e : Equation) → IsReduced e → Fits (turned col e).lead
-unfolding turned
+fits-lead : (col : ℕ) (e : Equation) → IsReduced e → Fits (solution_for col e).lead
+unfolding solution_for
 fits-lead col e h = fits-coef col e h
 
-pub reduced-turned : (col : ℕ) (e : Equation) → IsReduced e → HasTerm e col → IsReduced (turned col e)
-reduced-turned col e h term =
+pub reduced-solution_for : (col : ℕ) (e : Equation) → IsReduced e → HasTerm e col → IsReduced (solution_for col e)
+reduced-solution_for col e h term =
     let some : (n : ℕ) × AllBelow n e.terms = bound_of e.terms in
     let n : ℕ = max some.0 (e.basic + 1) in
     let e_neat : IsNeat n e = neat e n h.solved (All-weaker (λ d. d.0 < some.0) (λ d. d.0 < n) (λ d k. omega arith) e.terms some.1) in
-    let is : IsNeat n (turned col e) = neat-turned n col e e_neat (omega arith) term in
+    let is : IsNeat n (solution_for col e) = neat-solution_for n col e e_neat (omega arith) term in
     record {
       solved = record {
         lead_positive = is.lead_positive;
@@ -144,7 +144,7 @@ reduced-turned col e h term =
         rising = is.rising;
         no_zero = is.no_zero;
         apart = is.apart;
-        fitting = fitting-turned col e h;
+        fitting = fitting-solution_for col e h;
       };
-      lowest = divisor-turned col e h term;
+      lowest = divisor-solution_for col e h term;
     }

@@ -1,12 +1,12 @@
 use Rattle.std.proofs.Common.{◌≡◌, ◌≤◌, ◌⊎◌, length, inl, inr, arith}
 use Rattle.std.proofs.lemmas.Result.{err_from_is_err_and}
 use Rattle.opt_frac.specs.Divisors.{fits}
-use Rattle.opt_frac.specs.Merging.{rest_of, scaled_at, term_at, sum_fits}
+use Rattle.opt_frac.specs.Merging.{rest_of, multiple_at, term_at, sum_fits}
 use Rattle.opt_frac.proofs.RestLemmas.{rest_alone, Adds-end}
 use Rattle.opt_frac.proofs.StepLemmas.{left_step, right_step, right_unfit, both_step, both_unfit, left_by_end, Writes-end}
 use Rattle.opt_frac.proofs.WritesLemmas.{Writes-whole}
-use Rattle.opt_frac.proofs.merging.add_scaled.Goals as goal
-use Rattle.opt_frac.proofs.merging.add_scaled.Goals.{Else-second-first, After-push_rest-2, then-loop-i-test+else-k-added, else-loop-i-test}
+use Rattle.opt_frac.proofs.merging.add_multiples.Goals as goal
+use Rattle.opt_frac.proofs.merging.add_multiples.Goals.{Else-second-first, After-push_rest-2, then-loop-i-test+else-k-added, else-loop-i-test}
 
 pub loop-i-preserved-then-first-second : goal.loop-i-preserved-then-first-second
 loop-i-preserved-then-first-second c =
@@ -17,7 +17,7 @@ pub returns-in_err-push_term-2 : goal.returns-in_err-push_term-2
 returns-in_err-push_term-2 c =
     let fault = err_from_is_err_and c.from_residual-in_err-push_term-2.result c.from_residual-in_err-push_term-2.ensures.1 in
     rw (fault.1, fault.2)
-    (Writes-whole (Unit {0}) (Unit {0}) c.in_err-push_term-2.field-0.0 (fits (scaled_at c.args.added.factor c.args.added.terms.now c.loop-i.k).1) _ _ _ _ _ _ _
+    (Writes-whole (Unit {0}) (Unit {0}) c.in_err-push_term-2.field-0.0 (fits (multiple_at c.args.added.factor c.args.added.terms.now c.loop-i.k).1) _ _ _ _ _ _ _
     (right_unfit c.args.kept.factor c.args.added.factor c.args.col c.args.kept.terms.now c.args.added.terms.now c.loop-i.sums.items _ _ c.loop-i.i c.loop-i.k c.requires.kept_rising c.requires.added_rising c.loop-i-test.true c.if-k-added.true c.loop-i.invariant (c.requires.apart c.loop-i.k _ c.if-k-added.true))
     c.in_err-push_term-2.ensures)
 
@@ -37,7 +37,7 @@ pub returns-in_err-push_sum : goal.returns-in_err-push_sum
 returns-in_err-push_sum c =
     let fault = err_from_is_err_and c.from_residual-in_err-push_sum.result c.from_residual-in_err-push_sum.ensures.1 in
     rw (fault.1, fault.2)
-    (Writes-whole (Unit {0}) (Unit {0}) c.in_err-push_sum.field-0.0 (sum_fits (scaled_at c.args.kept.factor c.args.kept.terms.now c.loop-i.i).1 (scaled_at c.args.added.factor c.args.added.terms.now c.loop-i.k).1) _ _ _ _ _ _ _
+    (Writes-whole (Unit {0}) (Unit {0}) c.in_err-push_sum.field-0.0 (sum_fits (multiple_at c.args.kept.factor c.args.kept.terms.now c.loop-i.i).1 (multiple_at c.args.added.factor c.args.added.terms.now c.loop-i.k).1) _ _ _ _ _ _ _
     (both_unfit c.args.kept.factor c.args.added.factor c.args.col c.args.kept.terms.now c.args.added.terms.now c.loop-i.sums.items _ _ c.loop-i.i c.loop-i.k c.requires.kept_rising c.requires.added_rising c.loop-i-test.true c.if-k-added.true c.loop-i.invariant c.if-first-col.false (same (goal.at.returns-in_err-push_sum c).Else-second-first))
     c.in_err-push_sum.ensures)
 
