@@ -173,7 +173,7 @@ one_entry qs q z k d distinct within (Some i) e =
     one_number : Some i ≡ Some k → i ≡ k
     one_number f = cc
 
-entries_at : (qs : List Quantity) (terms : Terms) (k : ℕ) (d : Quantity) → AreDistinct qs → k < length qs → coef (entries_of qs terms) k ≡ coefficient terms (get_or qs k d)
+pub entries_at : (qs : List Quantity) (terms : Terms) (k : ℕ) (d : Quantity) → AreDistinct qs → k < length qs → coef (entries_of qs terms) k ≡ coefficient terms (get_or qs k d)
 entries_at qs [] k d distinct within = refl
 entries_at qs (term ∷ terms) k d distinct within =
     omega (arith, ints, coef-append (entry_of qs term) (entries_of qs terms) k, one_entry qs term.0 term.1 k d distinct within (position (same_quantity term.0) qs) refl, entries_at qs terms k d distinct within)

@@ -14,6 +14,7 @@ use Rattle.opt_model.specs.declared.quantity.Quantity.TheVariants.{Feed, Order}
 use Rattle.opt_model.specs.declared.quantity.RowName.{RowName}
 use Rattle.opt_model.specs.declared.quantity.RowName.TheVariants as row
 use Rattle.opt_network.specs.Counts.{arrives, departure_months, has_storage}
+use Rattle.opt_rows.specs.Counting.{has_throughput}
 use Rattle.opt_rows.specs.Names.{nutrient_names_of, nutrient_names, group_names_of, group_names_in, group_names, handout_names_in, handout_names_of, handout_names_at, handout_names, balance_names_of, balance_names_at, balance_names, arc_names_of, arc_names, storage_names, throughput_names_in, throughput_names, budget_names, lot_names_in, lot_names_of, lot_names, limit_names}
 use Rattle.opt_rows.proofs.RowNames.{count_named}
 
@@ -52,10 +53,6 @@ two_for_one false x y z = refl
 one_if : {B : Type 0} (b : Bool) (x : B) → length (list_if b (x ∷ [])) ≡ cond b 1 0
 one_if true x = refl
 one_if false x = refl
-
--- whether a place has a throughput
-abbrev pub has_throughput : Place → Bool
-has_throughput place = is_some place.throughput
 
 module _ (t : Tables) where
   abbrev months : List ℕ

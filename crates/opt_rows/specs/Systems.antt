@@ -1,6 +1,6 @@
 -- The system of a model: its rows over the numbers of its quantities, the ranges of the quantities, and the costs of a goal.
 use Rattle.std.specs.Prelude.{◌≤◌, List, [], ◌∷◌, ◌++◌, map, length, All, sum_by, Option, Some, None, ℤ, neg_ℤ, unsigned_abs, nat_lt, if◌then◌else◌, Result, Ok, Err}
-use Rattle.opt_base.specs.declared.limits.TheConstants.{ROW_LIMIT, TERM_LIMIT, ROWS_COLUMN, TERMS_COLUMN}
+use Rattle.opt_base.specs.declared.limits.TheConstants.{ROW_LIMIT, ROWS_COLUMN}
 use Rattle.opt_base.specs.declared.refusal.Refusal.{Refusal}
 use Rattle.opt_base.specs.Refusals.{too_many}
 use Rattle.opt_model.specs.Tables.{Tables}
@@ -14,7 +14,7 @@ use Rattle.opt_system.specs.declared.rows.RowKind.{RowKind}
 use Rattle.opt_system.specs.declared.rows.RowKind.TheVariants.{Ge, Eq}
 use Rattle.opt_system.specs.Ranges.{Range}
 use Rattle.opt_system.specs.declared.limits.TheConstants.{RIGHT_HAND_SIDE_LIMIT}
-use Rattle.opt_system.specs.Systems.{System, IsSmallTerm, problem_of, term_count}
+use Rattle.opt_system.specs.Systems.{System, IsSmallTerm, problem_of}
 
 -- a row of a system
 abbrev pub SystemRow : Type 0
@@ -55,14 +55,10 @@ system_of t goal cap = record { rows = system_rows t cap; root = root_of t; cost
 abbrev pub model_system : Tables → Goal → Option ℤ → Result System Refusal
 model_system t goal cap = problem_of (system_rows t cap) (root_of t) (costs_of t goal)
 
--- the rows of the system of a model, or the refusal of too many rows, then of too many terms
-abbrev pub limited_rows : Tables → Option ℤ → Result (List SystemRow) Refusal
-limited_rows t cap =
-    if nat_lt ROW_LIMIT (length (system_rows t cap))
-    then Err (too_many ROWS_COLUMN (length (system_rows t cap)))
-    else if nat_lt TERM_LIMIT (term_count (system_rows t cap))
-    then Err (too_many TERMS_COLUMN (term_count (system_rows t cap)))
-    else Ok (system_rows t cap)
+-- the rows of the system of a model, or the refusal of too many of them
+abbrev pub rows_or_too_many : Tables → Option ℤ → Result (List SystemRow) Refusal
+rows_or_too_many t cap =
+    if nat_lt ROW_LIMIT (length (system_rows t cap)) then Err (too_many ROWS_COLUMN (length (system_rows t cap))) else Ok (system_rows t cap)
 
 -- the terms of these rows name quantities with these greatest values and are small, and so are the right-hand sides together
 pub record AreSmallRows (high : List ℤ) (rows : List SystemRow) : Type 0 where

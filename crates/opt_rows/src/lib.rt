@@ -1,22 +1,42 @@
-//! The rows of a model: their names, how they are printed, and the law of the system that stands for a model.
+//! The rows of a model: as a system over the numbers of its quantities, their names, and how they are printed.
 #![tactic(auto)]
 
-ghost use Rattle.opt_rows.proofs.Distinct.{system_speaks};
-ghost use Rattle.opt_rows.proofs.Gathering.{gathered_are};
-ghost use Rattle.opt_rows.proofs.RowCounts.{row_count};
-
+mod arc_rows;
+mod balance_rows;
+mod building;
+mod conditional_terms;
+mod cost_terms;
+mod costs;
 mod counts;
 mod diet_names;
+mod flows;
+mod goal_rows;
+mod group_rows;
 mod handout_names;
+mod handout_rows;
 mod limits;
 mod lot_names;
+mod lot_rows;
 mod names;
 mod network_names;
+mod nutrient_contents;
+mod nutrient_rows;
+mod ranges;
 mod record_names;
+mod row_counts;
+mod row_lists;
+mod rows;
+mod spot;
+mod steps;
+mod storage_rows;
+mod sums;
+mod term_buffer;
 #[cfg(test)]
 mod tests;
 mod texts;
+mod throughput_rows;
 
+pub use building::{build, build_goal};
 pub use limits::{ENTRY_LIMIT, node_limit};
 pub use names::row_name;
 pub use opt_model::RowName;

@@ -1,9 +1,14 @@
-use crate::names::find_row;
-use crate::{node_limit, row_text};
+mod countries;
+mod limits;
+mod names;
+mod plans;
+
 use opt_base::{OutOfMemory, SureShelf};
+use opt_model::Quantity;
+use opt_network::Layout;
+use opt_system::System;
 use opt_tables::{Tables, fetch, read_model};
-use std::alloc::Global;
-use std::process::Abort;
+use std::alloc::{AllocError, Global};
 use std::test::Fail;
 
 /// The path of a model file and what it holds.
@@ -43,50 +48,6 @@ const LINE: [Held<'static>; 8] = [
     Held("d/persons.csv", b"place,month,persons\nP,1,1000\n"),
 ];
 
-/// What makes the line one of two months, in which food is a month on the way.
-const TWO_MONTHS: [Held<'static>; 2] = [
-    Held(
-        "d/settings.toml",
-        b"format = 1\nmonths = 2\ndays = [30, 30]\ngoal = \"cost\"\ngap = 0\nnodes = 1000\n",
-    ),
-    Held(
-        "d/arcs.csv",
-        b"arc,from,to,cost,capacity,lead\na1,S,P,50,20000,1\n",
-    ),
-];
-
-/// What makes the line one with every kind of row.
-const EVERY_KIND: [Held<'static>; 8] = [
-    Held(
-        "d/settings.toml",
-        b"format = 3\nmonths = 1\ndays = [30]\ngoal = \"cost\"\ngap = 0\nnodes = 1000\nbudget = 5\n",
-    ),
-    Held(
-        "d/commodities.csv",
-        b"commodity,group,min_g,max_g,step_g\nrice,cereals,0,600,10\n",
-    ),
-    Held("d/groups.csv", b"group,min_g,max_g\ncereals,0,600\n"),
-    Held("d/nutrients.csv", b"nutrient\nenergy\n"),
-    Held(
-        "d/places.csv",
-        b"place,kind,storage,throughput,handling,storage_cost\nS,supplier,0,,0,0\nP,point,5,7,0,0\n",
-    ),
-    Held(
-        "d/offers.csv",
-        b"offer,place,commodity,price,max_kg,first,last,fee,least\no1,S,rice,450,20000,1,1,0,9\n",
-    ),
-    Held(
-        "d/persons.csv",
-        b"place,month,persons,basket\nP,1,1000,all\n",
-    ),
-    Held(
-        "d/needs.csv",
-        b"basket,nutrient,required,max_short,weight\nall,energy,2100,0,1\n",
-    ),
-];
-
-const ONE_BASKET: [Held<'static>; 1] = [Held("d/baskets.csv", b"basket\nall\n")];
-
 fn hold(shelf: &mut SureShelf, held: &[Held<'_>]) -> Result<(), OutOfMemory> {
     for one in held {
         shelf.load(one.0, one.1)?;
@@ -104,93 +65,34 @@ fn tables_of(alloc: Global, changes: &[Held<'_>], more: &[Held<'_>]) -> Result<T
     Ok(read_model(alloc, &files)?)
 }
 
-/// The printed name of row `i`; none past the last row.
-fn text_of(alloc: Global, tables: &Tables, i: u32) -> Result<Option<String>, OutOfMemory> {
-    match find_row(tables, i) {
-        Err(name) => Ok(Some(row_text(alloc, tables, name)?)),
-        Ok(_) => Ok(None),
-    }
-}
+/// A quantity's value in a plan.
+#[derive(Clone, Copy)]
+struct Amount(Quantity, i64);
 
-/// The rows have these names, at most 16, and there are no more.
-fn assert_named(
-    rt: &impl Abort,
+/// The values of a plan by the numbers of its quantities; none where one does not exist.
+fn values_of(
     alloc: Global,
-    tables: &Tables,
-    names: &[&str],
-) -> Result<(), OutOfMemory> {
-    for i in 0..17u32 {
-        let text = text_of(alloc, tables, i)?;
-        assert_eq!(rt; text.as_deref(), names.get(i as usize).copied());
+    layout: &Layout,
+    plan: &[Amount],
+) -> Result<Option<Vec<i64>>, AllocError> {
+    let mut values = vec![in alloc; 0i64; layout.len() as usize]?;
+    for amount in plan {
+        let Some(number) = layout.index(&amount.0) else {
+            return Ok(None);
+        };
+        let Some(value) = values.get_mut(number as usize) else {
+            return Ok(None);
+        };
+        *value = amount.1;
     }
-    Ok(())
+    Ok(Some(values))
 }
 
-#[test]
-fn names_the_rows_of_a_line(rt: HostRuntime) -> Result<(), Fail> {
-    let alloc = rt.alloc();
-    let tables = tables_of(alloc, &[], &[])?;
-    let names = [
-        "nutrient energy month 1",
-        "handout-low P rice month 1",
-        "handout-high P rice month 1",
-        "balance S rice month 1",
-        "balance P rice month 1",
-        "arc a1 month 1",
-    ];
-    assert_named(&rt, alloc, &tables, &names)?;
-    Ok(())
-}
-
-#[test]
-fn names_the_rows_of_two_months(rt: HostRuntime) -> Result<(), Fail> {
-    // Nobody is fed in the second month, and nothing leaves in it.
-    let alloc = rt.alloc();
-    let tables = tables_of(alloc, &TWO_MONTHS, &[])?;
-    let names = [
-        "nutrient energy month 1",
-        "nutrient energy month 2",
-        "handout-low P rice month 1",
-        "handout-high P rice month 1",
-        "balance S rice month 1",
-        "balance S rice month 2",
-        "balance P rice month 1",
-        "balance P rice month 2",
-        "arc a1 month 1",
-    ];
-    assert_named(&rt, alloc, &tables, &names)?;
-    Ok(())
-}
-
-#[test]
-fn names_every_kind_of_row(rt: HostRuntime) -> Result<(), Fail> {
-    let alloc = rt.alloc();
-    let tables = tables_of(alloc, &EVERY_KIND, &ONE_BASKET)?;
-    let names = [
-        "nutrient all energy month 1",
-        "group-low all cereals month 1",
-        "group-high all cereals month 1",
-        "handout-low P rice month 1",
-        "handout-high P rice month 1",
-        "balance S rice month 1",
-        "balance P rice month 1",
-        "arc a1 month 1",
-        "storage P month 1",
-        "throughput P month 1",
-        "budget",
-        "lot-low o1 month 1",
-        "lot-high o1 month 1",
-    ];
-    assert_named(&rt, alloc, &tables, &names)?;
-    Ok(())
-}
-
-#[test]
-fn limits_nodes_by_rows(rt: HostRuntime) -> Result<(), Fail> {
-    // 2^24 / 20000 is 838.8.
-    let tables = tables_of(rt.alloc(), &[], &[])?;
-    assert_eq!(rt; node_limit(&tables, 0), 1000);
-    assert_eq!(rt; node_limit(&tables, 16_777), 1000);
-    assert_eq!(rt; node_limit(&tables, 20_000), 838);
-    Ok(())
+/// How many terms the rows of a system have together.
+fn term_count(system: &System) -> u64 {
+    let mut count = 0u64;
+    for i in 0..system.rows() {
+        count = count.saturating_add(system.terms(i).len() as u64);
+    }
+    count
 }

@@ -1,0 +1,10 @@
+-- the months so far
+use Rattle.std.proofs.Common.{◌≡◌, ◌++◌, map}
+use Rattle.std.specs.List.{flat_map, range_with_len}
+use Rattle.opt_rows.specs.Parts.{balance_row}
+use Rattle.opt_rows.specs.Systems.{row_over}
+use Rattle.opt_rows.proofs.balance_rows.add_months.Given as goal
+
+abbrev pub invariant-loop-earlier : goal.invariant-loop-earlier
+invariant-loop-earlier l =
+    l.rows ≡ l.initial.rows ++ map (row_over l.layout.quantities) (flat_map (balance_row l.tables l.flows.place l.commodity) (range_with_len 1 l.earlier))

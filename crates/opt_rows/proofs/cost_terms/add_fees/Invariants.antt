@@ -1,0 +1,10 @@
+-- the offers so far
+use Rattle.std.proofs.Common.{◌≡◌, ◌++◌, ◌∷◌, [], take}
+use Rattle.opt_model.specs.Quantities.{over, over_months}
+use Rattle.opt_model.specs.declared.quantity.Quantity.TheVariants.{Order}
+use Rattle.opt_rows.specs.Gathering.{entries_of}
+use Rattle.opt_rows.proofs.cost_terms.add_fees.Given as goal
+
+abbrev pub invariant-loop-number : goal.invariant-loop-number
+invariant-loop-number l =
+    l.terms ≡ l.initial.terms ++ entries_of l.layout.quantities (over (take l.number l.tables.offers) λ n r. over_months l.tables λ m. (Order n m, r.fee) ∷ [])

@@ -1,0 +1,13 @@
+use Rattle.std.proofs.Common.{◌+◌, ◌∷◌, ◌++◌, [], ℤ, ap, ◌∙◌}
+use Rattle.opt_model.specs.declared.quantity.Quantity.{Quantity}
+use Rattle.opt_model.specs.declared.quantity.Quantity.TheVariants.{Keep}
+use Rattle.opt_rows.specs.Gathering.{entries_of}
+use Rattle.opt_rows.proofs.RowSteps.{month_terms, term_is}
+use Rattle.opt_rows.proofs.cost_terms.add_storage_of.Goals as goal
+
+pub loop-earlier-preserved : goal.loop-earlier-preserved
+loop-earlier-preserved c =
+    month_terms c.args.layout.now.quantities _ _ _ (λ m. (Keep c.args.number c.args.commodity m, c.args.place.now.storage_cost) ∷ []) c.loop-earlier.earlier c.loop-earlier.invariant
+    (c.in_ok-add.ensures
+    ∙ ap (λ (d : Quantity × ℤ). c.loop-earlier.terms ++ entries_of c.args.layout.now.quantities (d ∷ []))
+    (term_is c.storage.result (Keep c.args.number c.args.commodity (c.loop-earlier.earlier + 1)) c.args.place.now.storage_cost c.storage.ensures.quantity c.storage.ensures.coefficient))

@@ -1,0 +1,304 @@
+//! The rows of the balances.
+ghost use Rattle.std.specs.Prelude.{◌≡◌, ◌<◌, ◌-◌, ◌^◌, [], ◌∷◌, ◌++◌, ◌==◌, nat_lt};
+ghost use Rattle.std.specs.Prelude.{map, pos, neg_ℤ, OnOk};
+ghost use Rattle.std.specs.List.{flat_map};
+ghost use Rattle.opt_model.specs.Tables.{stock_at};
+ghost use Rattle.opt_model.specs.Quantities.{over, over_months, list_if};
+ghost use Rattle.opt_model.specs.Rows.{kept_terms, balance_rows};
+ghost use Rattle.opt_model.specs.declared.quantity.Quantity.TheVariants.{Buy, Ship, Keep, Feed};
+ghost use Rattle.opt_tables.specs.Facts.{IsModel, IsFrom};
+ghost use Rattle.opt_network.specs.Numbering.{IsLayoutOf};
+ghost use Rattle.opt_rows.specs.Gathering.{entries_of};
+ghost use Rattle.opt_rows.specs.Listed.{AreFlowsOf};
+ghost use Rattle.opt_rows.specs.Parts.{balance_row, balance_terms};
+ghost use Rattle.opt_rows.specs.Systems.{row_over};
+
+use crate::conditional_terms::add_term_if;
+use crate::counts::{commodity_count, month_count, place_count};
+use crate::flows::{Arrival, Flows, Sale, flows_of};
+use crate::spot::{Spot, handed_out};
+use crate::term_buffer::{TermBuffer, push_equal};
+use opt_base::OutOfMemory;
+use opt_model::Quantity;
+use opt_network::Layout;
+use opt_system::RowList;
+use opt_tables::Tables;
+use std::alloc::{AllocError, Global};
+
+/// Adds what is bought.
+fn add_bought(
+    terms: &mut TermBuffer,
+    layout: &Layout,
+    sales: &[Sale],
+    spot: Spot,
+) -> Result<(), OutOfMemory>
+    ensures { OnOk result (terms.new ≡ terms.old ++ entries_of layout.now.quantities
+        (flat_map (λ sale. list_if (sale.commodity == spot.commodity)
+        ((Buy sale.offer spot.month, pos 1) ∷ [])) sales.now)) }
+{
+    for sale in sales {
+        let buy = Quantity::Buy {
+            offer: sale.offer,
+            month: spot.month,
+        };
+        add_term_if(terms, layout, sale.commodity == spot.commodity, (buy, 1))?;
+    }
+    Ok(())
+}
+
+/// What leaves on an arc so that it arrives at a spot.
+fn shipment(arrival: Arrival, spot: Spot) -> Quantity
+    requires { arrival.lead < spot.month }
+    ensures { result ≡ Ship arrival.arc spot.commodity (spot.month - arrival.lead) }
+{
+    Quantity::Ship {
+        arc: arrival.arc,
+        commodity: spot.commodity,
+        month: spot.month - arrival.lead,
+    }
+}
+
+/// Adds what arrives on an arc, where it can have left in the plan.
+fn add_arrival(
+    terms: &mut TermBuffer,
+    layout: &Layout,
+    arrival: Arrival,
+    spot: Spot,
+) -> Result<(), AllocError>
+    ensures { OnOk result (terms.new ≡ terms.old ++ entries_of layout.now.quantities
+        (list_if (nat_lt arrival.lead spot.month)
+        ((Ship arrival.arc spot.commodity (spot.month - arrival.lead), pos 1) ∷ []))) }
+{
+    if arrival.lead < spot.month {
+        terms.add(layout, (shipment(arrival, spot), 1))?;
+    }
+    Ok(())
+}
+
+/// Adds what arrives.
+fn add_arrivals(
+    terms: &mut TermBuffer,
+    layout: &Layout,
+    arrivals: &[Arrival],
+    spot: Spot,
+) -> Result<(), OutOfMemory>
+    ensures { OnOk result (terms.new ≡ terms.old ++ entries_of layout.now.quantities
+        (flat_map (λ arrival. list_if (nat_lt arrival.lead spot.month)
+        ((Ship arrival.arc spot.commodity (spot.month - arrival.lead), pos 1) ∷ []))
+        arrivals.now)) }
+{
+    for arrival in arrivals {
+        add_arrival(terms, layout, *arrival, spot)?;
+    }
+    Ok(())
+}
+
+/// What is kept at a spot.
+fn kept(spot: Spot) -> Quantity
+    ensures { result ≡ Keep spot.place spot.commodity spot.month }
+{
+    Quantity::Keep {
+        place: spot.place,
+        commodity: spot.commodity,
+        month: spot.month,
+    }
+}
+
+/// What was kept in the month before.
+fn kept_before(spot: Spot) -> Quantity
+    requires { 1 < spot.month }
+    ensures { result ≡ Keep spot.place spot.commodity (spot.month - 1) }
+{
+    Quantity::Keep {
+        place: spot.place,
+        commodity: spot.commodity,
+        month: spot.month - 1,
+    }
+}
+
+/// Adds what was kept in the month before, past the first.
+fn add_kept(terms: &mut TermBuffer, layout: &Layout, spot: Spot) -> Result<(), AllocError>
+    ensures { OnOk result (terms.new ≡ terms.old ++ entries_of layout.now.quantities
+        (kept_terms spot.place spot.commodity spot.month)) }
+{
+    if spot.month > 1 {
+        terms.add(layout, (kept_before(spot), 1))?;
+    }
+    Ok(())
+}
+
+/// Takes away what leaves.
+fn add_departures(
+    terms: &mut TermBuffer,
+    layout: &Layout,
+    departures: &[u32],
+    spot: Spot,
+) -> Result<(), OutOfMemory>
+    ensures { OnOk result (terms.new ≡ terms.old ++ entries_of layout.now.quantities
+        (flat_map (λ a. (Ship a spot.commodity spot.month, neg_ℤ (pos 1)) ∷ []) departures.now)) }
+{
+    for arc in departures {
+        let ship = Quantity::Ship {
+            arc: *arc,
+            commodity: spot.commodity,
+            month: spot.month,
+        };
+        terms.add(layout, (ship, -1))?;
+    }
+    Ok(())
+}
+
+/// Takes away what is kept and handed out.
+fn add_uses(terms: &mut TermBuffer, layout: &Layout, spot: Spot) -> Result<(), AllocError>
+    ensures { OnOk result (terms.new ≡ terms.old ++ entries_of layout.now.quantities
+        ((Keep spot.place spot.commodity spot.month, neg_ℤ (pos 1))
+        ∷ (Feed spot.place spot.commodity spot.month, neg_ℤ (pos 1)) ∷ [])) }
+{
+    terms.add(layout, (kept(spot), -1))?;
+    terms.add(layout, (handed_out(spot), -1))?;
+    Ok(())
+}
+
+/// Adds the terms of a balance.
+fn add_terms(
+    terms: &mut TermBuffer,
+    tables: &Tables,
+    layout: &Layout,
+    flows: &Flows,
+    spot: Spot,
+) -> Result<(), OutOfMemory>
+    requires flows { AreFlowsOf tables.now flows.now }
+    requires place { spot.place ≡ flows.now.place }
+    ensures { OnOk result (terms.new ≡ terms.old ++ entries_of layout.now.quantities
+        (balance_terms tables.now spot.place spot.commodity spot.month)) }
+{
+    add_bought(terms, layout, flows.sales.as_slice(), spot)?;
+    add_arrivals(terms, layout, flows.arrivals.as_slice(), spot)?;
+    add_kept(terms, layout, spot)?;
+    add_departures(terms, layout, flows.departures.as_slice(), spot)?;
+    add_uses(terms, layout, spot)?;
+    Ok(())
+}
+
+/// The stock of a spot.
+fn stock(tables: &Tables, spot: Spot) -> i64
+    requires { IsModel tables.now }
+    ensures value { result ≡ stock_at tables.now spot.place spot.commodity spot.month }
+    ensures range { IsFrom (pos 0) (pos (10 ^ 9)) result }
+{
+    tables.stock_at(spot.place, spot.commodity, spot.month)
+}
+
+/// The stock of a spot, with the other sign.
+fn owed_stock(tables: &Tables, spot: Spot) -> i64
+    requires { IsModel tables.now }
+    ensures { result ≡ neg_ℤ (stock_at tables.now spot.place spot.commodity spot.month) }
+{
+    -stock(tables, spot)
+}
+
+/// Adds the balance of a spot.
+fn add_row(
+    rows: &mut RowList,
+    alloc: Global,
+    tables: &Tables,
+    layout: &Layout,
+    flows: &Flows,
+    spot: Spot,
+) -> Result<(), OutOfMemory>
+    requires model { IsModel tables.now }
+    requires layout { IsLayoutOf tables.now layout.now }
+    requires flows { AreFlowsOf tables.now flows.now }
+    requires place { spot.place ≡ flows.now.place }
+    ensures { OnOk result (rows.new ≡ rows.old ++ map (row_over layout.now.quantities)
+        (balance_row tables.now spot.place spot.commodity spot.month)) }
+{
+    let mut terms = TermBuffer::new(alloc);
+    add_terms(&mut terms, tables, layout, flows, spot)?;
+    push_equal(rows, layout, &terms, &owed_stock(tables, spot))?;
+    Ok(())
+}
+
+/// Adds the balances of a commodity at a place.
+fn add_months(
+    rows: &mut RowList,
+    alloc: Global,
+    tables: &Tables,
+    layout: &Layout,
+    flows: &Flows,
+    commodity: u32,
+) -> Result<(), OutOfMemory>
+    requires model { IsModel tables.now }
+    requires layout { IsLayoutOf tables.now layout.now }
+    requires flows { AreFlowsOf tables.now flows.now }
+    ensures { OnOk result (rows.new ≡ rows.old ++ map (row_over layout.now.quantities)
+        (over_months tables.now (balance_row tables.now flows.now.place commodity))) }
+{
+    for earlier in 0..month_count(tables) {
+        let spot = Spot {
+            place: flows.place,
+            commodity,
+            month: earlier + 1,
+        };
+        add_row(rows, alloc, tables, layout, flows, spot)?;
+    }
+    Ok(())
+}
+
+/// Adds the balances of all commodities at a place with these flows.
+fn add_commodities(
+    rows: &mut RowList,
+    alloc: Global,
+    tables: &Tables,
+    layout: &Layout,
+    flows: &Flows,
+) -> Result<(), OutOfMemory>
+    requires model { IsModel tables.now }
+    requires layout { IsLayoutOf tables.now layout.now }
+    requires flows { AreFlowsOf tables.now flows.now }
+    ensures { OnOk result (rows.new ≡ rows.old ++ map (row_over layout.now.quantities)
+        (over tables.now.commodities λ c _.
+        over_months tables.now (balance_row tables.now flows.now.place c))) }
+{
+    for commodity in 0..commodity_count(tables) {
+        add_months(rows, alloc, tables, layout, flows, commodity)?;
+    }
+    Ok(())
+}
+
+/// Adds the balances at a place.
+fn add_place(
+    rows: &mut RowList,
+    alloc: Global,
+    tables: &Tables,
+    layout: &Layout,
+    place: u32,
+) -> Result<(), OutOfMemory>
+    requires model { IsModel tables.now }
+    requires layout { IsLayoutOf tables.now layout.now }
+    ensures { OnOk result (rows.new ≡ rows.old ++ map (row_over layout.now.quantities)
+        (over tables.now.commodities λ c _.
+        over_months tables.now (balance_row tables.now place c))) }
+{
+    let flows = flows_of(alloc, tables, place)?;
+    add_commodities(rows, alloc, tables, layout, &flows)?;
+    Ok(())
+}
+
+/// Adds the rows of all places and commodities.
+pub fn add_balance_rows(
+    rows: &mut RowList,
+    alloc: Global,
+    tables: &Tables,
+    layout: &Layout,
+) -> Result<(), OutOfMemory>
+    requires { IsLayoutOf tables.now layout.now }
+    ensures { OnOk result (rows.new
+        ≡ rows.old ++ map (row_over layout.now.quantities) (balance_rows tables.now)) }
+{
+    let _settings = tables.settings();
+    for place in 0..place_count(tables) {
+        add_place(rows, alloc, tables, layout, place)?;
+    }
+    Ok(())
+}
