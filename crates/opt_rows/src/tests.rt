@@ -1,14 +1,9 @@
-mod countries;
-mod limits;
 mod names;
-mod plans;
+mod systems;
 
 use opt_base::{OutOfMemory, SureShelf};
-use opt_model::Quantity;
-use opt_network::Layout;
-use opt_system::System;
 use opt_tables::{Tables, fetch, read_model};
-use std::alloc::{AllocError, Global};
+use std::alloc::Global;
 use std::test::Fail;
 
 /// The path of a model file and what it holds.
@@ -63,36 +58,4 @@ fn tables_of(alloc: Global, changes: &[Held<'_>], more: &[Held<'_>]) -> Result<T
     hold(&mut shelf, more)?;
     let files = fetch(alloc, &mut shelf, "d")?;
     Ok(read_model(alloc, &files)?)
-}
-
-/// A quantity's value in a plan.
-#[derive(Clone, Copy)]
-struct Amount(Quantity, i64);
-
-/// The values of a plan by the numbers of its quantities; none where one does not exist.
-fn values_of(
-    alloc: Global,
-    layout: &Layout,
-    plan: &[Amount],
-) -> Result<Option<Vec<i64>>, AllocError> {
-    let mut values = vec![in alloc; 0i64; layout.len() as usize]?;
-    for amount in plan {
-        let Some(number) = layout.index(&amount.0) else {
-            return Ok(None);
-        };
-        let Some(value) = values.get_mut(number as usize) else {
-            return Ok(None);
-        };
-        *value = amount.1;
-    }
-    Ok(Some(values))
-}
-
-/// How many terms the rows of a system have together.
-fn term_count(system: &System) -> u64 {
-    let mut count = 0u64;
-    for i in 0..system.rows() {
-        count = count.saturating_add(system.terms(i).len() as u64);
-    }
-    count
 }
