@@ -1,0 +1,4 @@
+pub mod FixLemmas
+pub mod RoundSteps
+pub mod WholePoints
+pub mod Laws
