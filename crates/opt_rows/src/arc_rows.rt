@@ -2,6 +2,7 @@
 ghost use Rattle.std.specs.Prelude.{◌≡◌, ◌≤◌, ◌+◌, [], ◌∷◌, ◌++◌, map, nat_le, pos, ◌≤ℤ◌, OnOk};
 ghost use Rattle.opt_model.specs.Quantities.{over, over_months, list_if};
 ghost use Rattle.opt_model.specs.Rows.{at_most_row, arc_rows};
+ghost use Rattle.opt_model.specs.declared.limits.TheConstants.{MONTH_LIMIT, LEAD_LIMIT};
 ghost use Rattle.opt_model.specs.declared.quantity.Quantity.TheVariants.{Ship};
 ghost use Rattle.opt_model.specs.declared.quantity.RowName.TheVariants as row;
 ghost use Rattle.opt_network.specs.Numbering.{IsLayoutOf};
@@ -41,8 +42,8 @@ fn add_carried(
 
 /// Whether what leaves on an arc in a month arrives within so many months.
 fn arrives(months: u32, arc: &Arc, month: u32) -> bool
-    requires month { month ≤ 36 }
-    requires lead { arc.now.lead ≤ 12 }
+    requires month { month ≤ MONTH_LIMIT }
+    requires lead { arc.now.lead ≤ LEAD_LIMIT }
     ensures { result ≡ nat_le (month + arc.now.lead) months }
 {
     month + arc.lead <= months
@@ -83,8 +84,8 @@ fn add_month(
 ) -> Result<(), OutOfMemory>
     requires layout { IsLayoutOf tables.now layout.now }
     requires capacity { pos 0 ≤ℤ arc.now.capacity }
-    requires lead { arc.now.lead ≤ 12 }
-    requires month { month ≤ 36 }
+    requires lead { arc.now.lead ≤ LEAD_LIMIT }
+    requires month { month ≤ MONTH_LIMIT }
     ensures { OnOk result (rows.new ≡ rows.old ++ map (row_over layout.now.quantities)
         (list_if (nat_le (month + arc.now.lead) tables.now.settings.months)
         (at_most_row (row.Arc number month)
@@ -107,7 +108,7 @@ fn add_months(
 ) -> Result<(), OutOfMemory>
     requires layout { IsLayoutOf tables.now layout.now }
     requires capacity { pos 0 ≤ℤ arc.now.capacity }
-    requires lead { arc.now.lead ≤ 12 }
+    requires lead { arc.now.lead ≤ LEAD_LIMIT }
     ensures { OnOk result (rows.new ≡ rows.old ++ map (row_over layout.now.quantities)
         (over_months tables.now λ m. list_if (nat_le (m + arc.now.lead) tables.now.settings.months)
         (at_most_row (row.Arc number m)

@@ -1,4 +1,5 @@
 ghost use Rattle.std.specs.Prelude.{◌≡◌, ◌≤◌, length};
+ghost use Rattle.opt_model.specs.declared.limits.TheConstants.{MONTH_LIMIT};
 
 use opt_tables::Tables;
 
@@ -55,7 +56,7 @@ pub fn basket_count(tables: &Tables) -> u32
 /// How many months the plan has: 1 to 36.
 pub fn month_count(tables: &Tables) -> u32
     ensures count { result ≡ tables.now.settings.months }
-    ensures few { result ≤ 36 }
+    ensures few { result ≤ MONTH_LIMIT }
 {
     tables.settings().months()
 }
