@@ -51,6 +51,6 @@ pub fn row_name(tables: &Tables, i: u32) -> RowName
 {
     match find_row(tables, i) {
         Err(name) => name,
-        Ok(_) => RowName::Budget,
+        Ok(_) => unreachable!(),
     }
 }
