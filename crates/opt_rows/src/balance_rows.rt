@@ -1,5 +1,5 @@
 //! The rows of the balances.
-ghost use Rattle.std.specs.Prelude.{◌≡◌, ◌<◌, ◌-◌, ◌^◌, [], ◌∷◌, ◌++◌, ◌==◌, nat_lt};
+ghost use Rattle.std.specs.Prelude.{◌≡◌, ◌<◌, ◌-◌, ◌^◌, [], ◌∷◌, ◌++◌, ◌==◌};
 ghost use Rattle.std.specs.Prelude.{map, pos, neg_ℤ, OnOk};
 ghost use Rattle.std.specs.List.{flat_map};
 ghost use Rattle.opt_model.specs.Tables.{stock_at};
@@ -13,9 +13,10 @@ ghost use Rattle.opt_rows.specs.Listed.{AreFlowsOf};
 ghost use Rattle.opt_rows.specs.Parts.{balance_row, balance_terms};
 ghost use Rattle.opt_rows.specs.Systems.{row_over};
 
+use crate::arrivals::add_arrivals;
 use crate::conditional_terms::add_term_if;
 use crate::counts::{commodity_count, month_count, place_count};
-use crate::flows::{Arrival, Flows, Sale, flows_of};
+use crate::flows::{Flows, Sale, flows_of};
 use crate::spot::{Spot, handed_out};
 use crate::term_buffer::{TermBuffer, push_equal};
 use opt_base::OutOfMemory;
@@ -42,53 +43,6 @@ fn add_bought(
             month: spot.month,
         };
         add_term_if(terms, layout, sale.commodity == spot.commodity, (buy, 1))?;
-    }
-    Ok(())
-}
-
-/// What leaves on an arc so that it arrives at a spot.
-fn shipment(arrival: Arrival, spot: Spot) -> Quantity
-    requires { arrival.lead < spot.month }
-    ensures { result ≡ Ship arrival.arc spot.commodity (spot.month - arrival.lead) }
-{
-    Quantity::Ship {
-        arc: arrival.arc,
-        commodity: spot.commodity,
-        month: spot.month - arrival.lead,
-    }
-}
-
-/// Adds what arrives on an arc, where it can have left in the plan.
-fn add_arrival(
-    terms: &mut TermBuffer,
-    layout: &Layout,
-    arrival: Arrival,
-    spot: Spot,
-) -> Result<(), AllocError>
-    ensures { OnOk result (terms.new ≡ terms.old ++ entries_of layout.now.quantities
-        (list_if (nat_lt arrival.lead spot.month)
-        ((Ship arrival.arc spot.commodity (spot.month - arrival.lead), pos 1) ∷ []))) }
-{
-    if arrival.lead < spot.month {
-        terms.add(layout, (shipment(arrival, spot), 1))?;
-    }
-    Ok(())
-}
-
-/// Adds what arrives.
-fn add_arrivals(
-    terms: &mut TermBuffer,
-    layout: &Layout,
-    arrivals: &[Arrival],
-    spot: Spot,
-) -> Result<(), OutOfMemory>
-    ensures { OnOk result (terms.new ≡ terms.old ++ entries_of layout.now.quantities
-        (flat_map (λ arrival. list_if (nat_lt arrival.lead spot.month)
-        ((Ship arrival.arc spot.commodity (spot.month - arrival.lead), pos 1) ∷ []))
-        arrivals.now)) }
-{
-    for arrival in arrivals {
-        add_arrival(terms, layout, *arrival, spot)?;
     }
     Ok(())
 }

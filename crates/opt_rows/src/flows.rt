@@ -79,7 +79,7 @@ fn add_arrival(
 }
 
 /// The arcs that lead to a place.
-fn arrivals_at(alloc: Global, tables: &Tables, place: u32) -> Result<Vec<Arrival>, AllocError>
+pub fn arrivals_at(alloc: Global, tables: &Tables, place: u32) -> Result<Vec<Arrival>, AllocError>
     requires { IsModel tables.now }
     ensures { IfOk result (λ arrivals. arrivals.items ≡ arrivals_at tables.now place) }
 {

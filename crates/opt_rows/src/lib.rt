@@ -2,6 +2,7 @@
 #![tactic(auto)]
 
 mod arc_rows;
+mod arrivals;
 mod balance_rows;
 mod building;
 mod conditional_terms;

@@ -1,123 +1,102 @@
 //! The rows of what arrives at the places.
-ghost use Rattle.std.specs.Prelude.{◌≡◌, ◌<◌, ◌-◌, ◌==◌, ◌&&◌, [], ◌∷◌, ◌++◌, map, nat_lt, Some, pos, ◌≤ℤ◌, OnOk, IfSome};
-ghost use Rattle.opt_model.specs.Quantities.{over, over_months, list_if};
-ghost use Rattle.opt_model.specs.Rows.{at_most_row, arrived_terms, throughput_row, throughput_rows};
-ghost use Rattle.opt_model.specs.declared.quantity.Quantity.TheVariants.{Ship};
-ghost use Rattle.opt_model.specs.declared.quantity.RowName.TheVariants as row;
-ghost use Rattle.opt_tables.specs.Facts.{IsKilograms};
+ghost use Rattle.std.specs.Prelude.{◌≡◌, ◌++◌, map, Some, pos, ◌≤ℤ◌, OnOk, IfSome};
+ghost use Rattle.opt_model.specs.Quantities.{over, over_months};
+ghost use Rattle.opt_model.specs.Rows.{arrived_terms, throughput_row, throughput_rows};
+ghost use Rattle.opt_tables.specs.Facts.{IsKilograms, IsModel};
 ghost use Rattle.opt_network.specs.Numbering.{IsLayoutOf};
 ghost use Rattle.opt_rows.specs.Gathering.{entries_of};
+ghost use Rattle.opt_rows.specs.Listed.{arrivals_at};
 ghost use Rattle.opt_rows.specs.Systems.{row_over};
 
-use crate::counts::{arc_count, commodity_count, month_count, place_count};
+use crate::arrivals::add_arrivals;
+use crate::counts::{commodity_count, month_count, place_count};
+use crate::flows::{Arrival, arrivals_at};
+use crate::spot::Spot;
 use crate::term_buffer::{TermBuffer, push_at_most};
 use opt_base::OutOfMemory;
-use opt_model::{Arc, Place, Quantity};
+use opt_model::Place;
 use opt_network::Layout;
 use opt_system::RowList;
 use opt_tables::Tables;
-use std::alloc::{AllocError, Global};
+use std::alloc::Global;
 
-/// Whether something can arrive on an arc at a place in a month.
-fn arrives(arc: &Arc, place: u32, month: u32) -> bool
-    ensures { result ≡ (arc.now.to_place == place) && nat_lt arc.now.lead month }
-{
-    arc.to_place == place && arc.lead < month
-}
-
-/// What leaves on an arc so that it arrives in a month.
-fn departure(number: u32, arc: &Arc, commodity: u32, month: u32) -> Quantity
-    requires { arc.now.lead < month }
-    ensures { result ≡ Ship number commodity (month - arc.now.lead) }
-{
-    Quantity::Ship {
-        arc: number,
-        commodity,
-        month: month - arc.lead,
-    }
-}
-
-/// Adds what arrives of a commodity on an arc, where it ends at the place.
-fn add_arrival(
-    terms: &mut TermBuffer,
-    layout: &Layout,
-    number: u32,
-    arc: &Arc,
+/// A place with a throughput, which is in kilograms a month, and the arcs that lead to it.
+#[derive(Debug, Drop)]
+struct Intake {
     place: u32,
-    commodity: u32,
-    month: u32,
-) -> Result<(), AllocError>
-    ensures { OnOk result (terms.new ≡ terms.old ++ entries_of layout.now.quantities
-        (list_if ((arc.now.to_place == place) && nat_lt arc.now.lead month)
-        ((Ship number commodity (month - arc.now.lead), pos 1) ∷ []))) }
-{
-    if arrives(arc, place, month) {
-        terms.add(layout, (departure(number, arc, commodity, month), 1))?;
-    }
-    Ok(())
-}
-
-/// Adds what arrives of a commodity at a place in a month.
-fn add_arrivals_of(
-    terms: &mut TermBuffer,
-    tables: &Tables,
-    layout: &Layout,
-    place: u32,
-    commodity: u32,
-    month: u32,
-) -> Result<(), OutOfMemory>
-    ensures { OnOk result (terms.new ≡ terms.old ++ entries_of layout.now.quantities
-        (arrived_terms tables.now place commodity month)) }
-{
-    let arcs = tables.arcs();
-    for number in 0..arc_count(tables) {
-        let arc = &arcs[number as usize];
-        add_arrival(terms, layout, number, arc, place, commodity, month)?;
-    }
-    Ok(())
+    arrivals: Vec<Arrival>,
+    throughput: i64,
 }
 
 /// Adds what arrives at a place in a month, of all commodities.
-fn add_arrivals(
+fn add_all_arrivals(
     terms: &mut TermBuffer,
     tables: &Tables,
     layout: &Layout,
-    place: u32,
+    intake: &Intake,
     month: u32,
 ) -> Result<(), OutOfMemory>
+    requires { intake.now.arrivals.items ≡ arrivals_at tables.now intake.now.place }
     ensures { OnOk result (terms.new ≡ terms.old ++ entries_of layout.now.quantities
-        (over tables.now.commodities λ c _. arrived_terms tables.now place c month)) }
+        (over tables.now.commodities λ c _. arrived_terms tables.now intake.now.place c month)) }
 {
+    let arrivals = intake.arrivals.as_slice();
     for commodity in 0..commodity_count(tables) {
-        add_arrivals_of(terms, tables, layout, place, commodity, month)?;
+        let spot = Spot {
+            place: intake.place,
+            commodity,
+            month,
+        };
+        add_arrivals(terms, layout, arrivals, spot)?;
     }
     Ok(())
 }
 
-/// Adds the row of a place with this throughput in a month.
+/// Adds the row of a place in a month.
 fn add_row(
     rows: &mut RowList,
     alloc: Global,
     tables: &Tables,
     layout: &Layout,
-    place: u32,
-    throughput: &i64,
+    intake: &Intake,
     month: u32,
 ) -> Result<(), OutOfMemory>
     requires layout { IsLayoutOf tables.now layout.now }
-    requires throughput { pos 0 ≤ℤ throughput.now }
+    requires arrivals { intake.now.arrivals.items ≡ arrivals_at tables.now intake.now.place }
+    requires throughput { pos 0 ≤ℤ intake.now.throughput }
     ensures { OnOk result (rows.new ≡ rows.old ++ map (row_over layout.now.quantities)
-        (throughput_row tables.now place (Some throughput.now) month)) }
+        (throughput_row tables.now intake.now.place (Some intake.now.throughput) month)) }
 {
     let _settings = tables.settings();
     let mut terms = TermBuffer::new(alloc);
-    add_arrivals(&mut terms, tables, layout, place, month)?;
-    push_at_most(rows, layout, &terms, throughput)?;
+    add_all_arrivals(&mut terms, tables, layout, intake, month)?;
+    push_at_most(rows, layout, &terms, &intake.throughput)?;
+    Ok(())
+}
+
+/// Adds the rows of a place in all months.
+fn add_months(
+    rows: &mut RowList,
+    alloc: Global,
+    tables: &Tables,
+    layout: &Layout,
+    intake: &Intake,
+) -> Result<(), OutOfMemory>
+    requires layout { IsLayoutOf tables.now layout.now }
+    requires arrivals { intake.now.arrivals.items ≡ arrivals_at tables.now intake.now.place }
+    requires throughput { pos 0 ≤ℤ intake.now.throughput }
+    ensures { OnOk result (rows.new ≡ rows.old ++ map (row_over layout.now.quantities)
+        (over_months tables.now λ m.
+        throughput_row tables.now intake.now.place (Some intake.now.throughput) m)) }
+{
+    for earlier in 0..month_count(tables) {
+        add_row(rows, alloc, tables, layout, intake, earlier + 1)?;
+    }
     Ok(())
 }
 
 /// Adds the rows of a place with this throughput.
-fn add_months(
+fn add_limited(
     rows: &mut RowList,
     alloc: Global,
     tables: &Tables,
@@ -125,14 +104,18 @@ fn add_months(
     place: u32,
     throughput: &i64,
 ) -> Result<(), OutOfMemory>
+    requires model { IsModel tables.now }
     requires layout { IsLayoutOf tables.now layout.now }
     requires throughput { pos 0 ≤ℤ throughput.now }
     ensures { OnOk result (rows.new ≡ rows.old ++ map (row_over layout.now.quantities)
         (over_months tables.now λ m. throughput_row tables.now place (Some throughput.now) m)) }
 {
-    for earlier in 0..month_count(tables) {
-        add_row(rows, alloc, tables, layout, place, throughput, earlier + 1)?;
-    }
+    let intake = Intake {
+        place,
+        arrivals: arrivals_at(alloc, tables, place)?,
+        throughput: *throughput,
+    };
+    add_months(rows, alloc, tables, layout, &intake)?;
     Ok(())
 }
 
@@ -145,6 +128,7 @@ fn add_place(
     number: u32,
     place: &Place,
 ) -> Result<(), OutOfMemory>
+    requires model { IsModel tables.now }
     requires layout { IsLayoutOf tables.now layout.now }
     requires throughput { IfSome place.now.throughput IsKilograms }
     ensures { OnOk result (rows.new ≡ rows.old ++ map (row_over layout.now.quantities)
@@ -152,7 +136,7 @@ fn add_place(
 {
     match place.throughput {
         Some(throughput) => {
-            add_months(rows, alloc, tables, layout, number, &throughput)?;
+            add_limited(rows, alloc, tables, layout, number, &throughput)?;
             Ok(())
         }
         None => Ok(()),

@@ -6,4 +6,4 @@ use Rattle.opt_rows.specs.Systems.{row_over}
 use Rattle.opt_rows.proofs.throughput_rows.add_months.Given as goal
 
 abbrev pub invariant-loop-earlier : goal.invariant-loop-earlier
-invariant-loop-earlier l = l.rows ≡ l.initial.rows ++ map (row_over l.layout.quantities) (flat_map (λ m. throughput_row l.tables l.place (Some l.throughput) m) (range_with_len 1 l.earlier))
+invariant-loop-earlier l = l.rows ≡ l.initial.rows ++ map (row_over l.layout.quantities) (flat_map (λ m. throughput_row l.tables l.intake.place (Some l.intake.throughput) m) (range_with_len 1 l.earlier))

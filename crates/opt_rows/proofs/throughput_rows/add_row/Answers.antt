@@ -7,10 +7,10 @@ use Rattle.opt_rows.proofs.throughput_rows.add_row.Goals as goal
 
 pub returns : goal.returns
 returns c =
-    limit_added c.args.layout.now.quantities (row.Throughput c.args.place c.args.month) (over c.args.tables.now.commodities λ n _. arrived_terms c.args.tables.now c.args.place n c.args.month) c.args.throughput.now _ _ _ _
-    c.new-terms.ensures c.in_ok-add_arrivals.ensures c.in_ok-push_at_most.ensures
+    limit_added c.args.layout.now.quantities (row.Throughput c.args.intake.now.place c.args.month) (over c.args.tables.now.commodities λ n _. arrived_terms c.args.tables.now c.args.intake.now.place n c.args.month) c.args.intake.now.throughput _ _ _ _
+    c.new-terms.ensures c.in_ok-add_all_arrivals.ensures c.in_ok-push_at_most.ensures
 
 pub push_at_most-requires-clause-sums : goal.push_at_most-requires-clause-sums
 push_at_most-requires-clause-sums c =
-    short_first c.args.tables.now c.args.layout.now (over c.args.tables.now.commodities λ n _. arrived_terms c.args.tables.now c.args.place n c.args.month) _ _
-    c.settings-settings.ensures.model c.requires.layout (throughput_terms_small c.args.tables.now c.args.place c.args.month) c.new-terms.ensures c.in_ok-add_arrivals.ensures
+    short_first c.args.tables.now c.args.layout.now (over c.args.tables.now.commodities λ n _. arrived_terms c.args.tables.now c.args.intake.now.place n c.args.month) _ _
+    c.settings-settings.ensures.model c.requires.layout (throughput_terms_small c.args.tables.now c.args.intake.now.place c.args.month) c.new-terms.ensures c.in_ok-add_all_arrivals.ensures

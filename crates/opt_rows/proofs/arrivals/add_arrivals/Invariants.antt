@@ -5,7 +5,7 @@ use Rattle.std.specs.List.{flat_map}
 use Rattle.opt_model.specs.Quantities.{list_if}
 use Rattle.opt_model.specs.declared.quantity.Quantity.TheVariants.{Ship}
 use Rattle.opt_rows.specs.Gathering.{entries_of}
-use Rattle.opt_rows.proofs.balance_rows.add_arrivals.Given as goal
+use Rattle.opt_rows.proofs.arrivals.add_arrivals.Given as goal
 
 abbrev pub invariant-loop-arrival : goal.invariant-loop-arrival
 invariant-loop-arrival l =

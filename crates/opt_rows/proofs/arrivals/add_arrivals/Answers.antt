@@ -4,7 +4,7 @@ use Rattle.opt_model.specs.Quantities.{list_if}
 use Rattle.opt_model.specs.declared.quantity.Quantity.TheVariants.{Ship}
 use Rattle.opt_rows.proofs.RowSteps.{read_at}
 use Rattle.opt_rows.proofs.ListedTerms.{listed_terms}
-use Rattle.opt_rows.proofs.balance_rows.add_arrivals.Goals as goal
+use Rattle.opt_rows.proofs.arrivals.add_arrivals.Goals as goal
 
 pub loop-arrival-preserved : goal.loop-arrival-preserved
 loop-arrival-preserved c =
