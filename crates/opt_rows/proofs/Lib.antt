@@ -19,7 +19,9 @@ pub mod RowsSmall
 pub mod RowSteps
 pub mod SystemCounts
 pub mod RowRights
+pub mod Absent
 pub mod ListedTerms
+pub mod PileSteps
 pub mod TableRanges
 pub mod ShortSums
 pub mod MapSums

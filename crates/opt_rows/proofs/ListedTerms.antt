@@ -12,9 +12,11 @@ use Rattle.opt_model.specs.declared.records.Arc.{Arc}
 use Rattle.opt_model.specs.declared.quantity.Quantity.{Quantity}
 use Rattle.opt_model.specs.declared.quantity.Quantity.TheVariants.{Ration, Buy, Ship}
 use Rattle.opt_model.specs.declared.quantity.RowName.{RowName}
+use Rattle.opt_network.specs.Numbering.{Numbering, IsLayoutOf}
 use Rattle.opt_rows.specs.Gathering.{entries_of, AddsRow}
-use Rattle.opt_rows.specs.Listed.{step_content_of, step_contents, sale_of, sales_at, arrival_of, arrivals_at, departures_from}
+use Rattle.opt_rows.specs.Listed.{step_content_of, step_contents, begins_in_plan, arrives_in_plan, sale_of, sales_at, way_of, arrivals_at, departures_from}
 use Rattle.opt_rows.specs.Systems.{SystemRow, row_over}
+use Rattle.opt_rows.proofs.Absent.{no_entry, no_purchase, no_shipment, same_over, one_left_out, two_left_out}
 use Rattle.opt_rows.proofs.RowSteps.{term_is, entries_join, number_terms}
 
 -- ---- terms one after another
@@ -50,6 +52,10 @@ five_terms qs a1 a2 a3 a4 a5 n0 n1 n2 n3 n4 n5 e1 e2 e3 e4 e5 =
 -- other terms that are the same
 pub same_terms : (qs : List Quantity) (xs ys : Terms) (old new : List (ℕ × ℤ)) → xs ≡ ys → new ≡ old ++ entries_of qs xs → new ≡ old ++ entries_of qs ys
 same_terms qs xs ys old new same added = added ∙ ap (λ ts. old ++ entries_of qs ts) same
+
+-- other terms with the same entries
+pub same_entries : (qs : List Quantity) (xs ys : Terms) (old new : List (ℕ × ℤ)) → entries_of qs xs ≡ entries_of qs ys → new ≡ old ++ entries_of qs xs → new ≡ old ++ entries_of qs ys
+same_entries qs xs ys old new same added = added ∙ ap (λ (es : List (ℕ × ℤ)). old ++ es) same
 
 -- the row of terms that were the first ones
 pub row_added : (qs : List Quantity) (name : RowName) (terms : Terms) (right : ℤ) (start entries : List (ℕ × ℤ)) (old new : List SystemRow) → start ≡ []
@@ -96,17 +102,6 @@ pub over_listed : {A X Y : Type 0} (f : X → List Y) (test : A → Bool) (pick 
     → flat_map f (over xs (λ j x. list_if (test x) (pick j x ∷ []))) ≡ over xs (λ j x. list_if (test x) (f (pick j x)))
 over_listed f test pick xs = flat-listed f (λ r. test r.1) (λ r. pick r.0 r.1) (enumerate_from 0 xs)
 
--- a test in a test
-both_if : {X : Type 0} (a b : Bool) (xs : List X) → list_if a (list_if b xs) ≡ list_if (a && b) xs
-both_if true true xs = refl
-both_if true false xs = refl
-both_if false true xs = refl
-both_if false false xs = refl
-
-over_both : {A X : Type 0} (first second : A → Bool) (f : ℕ → A → List X) (xs : List A)
-    → over xs (λ j x. list_if (first x) (list_if (second x) (f j x))) ≡ over xs (λ j x. list_if (first x && second x) (f j x))
-over_both first second f xs = ap (λ g. flat_map g (enumerate_from 0 xs)) (fun_ext (λ r. both_if (first r.1) (second r.1) (f r.0 r.1)))
-
 -- ---- terms with the other sign
 negation-flat : {R : Type 0} (h : R → Terms) (rs : List R) → negation (flat_map h rs) ≡ flat_map (λ r. negation (h r)) rs
 negation-flat h [] = refl
@@ -130,24 +125,41 @@ pub nutrient_listed : (t : Tables) (basket nutrient month : ℕ)
     → flat_map (λ r. (Ration basket r.commodity month, r.units) ∷ []) (step_contents t nutrient) ≡ nutrient_terms t basket nutrient month
 nutrient_listed t basket nutrient month = over_listed (λ r. (Ration basket r.commodity month, r.units) ∷ []) (λ r. r.nutrient == nutrient) (λ _ r. step_content_of t r) t.contents
 
-pub bought_listed : (t : Tables) (place commodity month : ℕ)
-    → flat_map (λ sale. list_if (sale.commodity == commodity) ((Buy sale.offer month, pos 1) ∷ [])) (sales_at t place) ≡ bought_terms t place commodity month
-bought_listed t place commodity month =
-    over_listed (λ sale. list_if (sale.commodity == commodity) ((Buy sale.offer month, pos 1) ∷ [])) (λ offer. offer.place == place) (λ o offer. sale_of o offer) t.offers
-    ∙ over_both (λ offer. offer.place == place) (λ offer. offer.commodity == commodity) (λ o _. (Buy o month, pos 1) ∷ []) t.offers
+-- the entries of what is bought, and of what arrives and leaves, from the lists without what has no quantity in the plan
+module _ (t : Tables) (layout : Numbering) (is : IsLayoutOf t layout) where
+  abbrev entries : Terms → List (ℕ × ℤ)
+  entries terms = entries_of layout.quantities terms
 
-pub arrived_listed : (t : Tables) (place commodity month : ℕ)
-    → flat_map (λ arrival. list_if (nat_lt arrival.lead month) ((Ship arrival.arc commodity (month - arrival.lead), pos 1) ∷ [])) (arrivals_at t place)
-    ≡ arrived_terms t place commodity month
-arrived_listed t place commodity month =
-    over_listed (λ arrival. list_if (nat_lt arrival.lead month) ((Ship arrival.arc commodity (month - arrival.lead), pos 1) ∷ [])) (λ arc. arc.to_place == place) (λ a arc. arrival_of a arc) t.arcs
-    ∙ over_both (λ arc. arc.to_place == place) (λ arc. nat_lt arc.lead month) (λ a arc. (Ship a commodity (month - arc.lead), pos 1) ∷ []) t.arcs
+  pub bought_listed : (place commodity month : ℕ)
+      → entries (flat_map (λ sale. list_if (sale.commodity == commodity) ((Buy sale.offer month, pos 1) ∷ [])) (sales_at t place)) ≡ entries (bought_terms t place commodity month)
+  bought_listed place commodity month =
+      ap entries (over_listed (λ sale. list_if (sale.commodity == commodity) ((Buy sale.offer month, pos 1) ∷ [])) (λ offer. (offer.place == place) && begins_in_plan t offer) (λ o offer. sale_of o offer) t.offers)
+      ∙ same_over layout.quantities (λ o offer. list_if ((offer.place == place) && begins_in_plan t offer) (list_if (offer.commodity == commodity) ((Buy o month, pos 1) ∷ [])))
+      (λ o offer. list_if ((offer.place == place) && (offer.commodity == commodity)) ((Buy o month, pos 1) ∷ [])) t.offers
+      (λ o offer there.
+      two_left_out layout.quantities (offer.place == place) (begins_in_plan t offer) (offer.commodity == commodity) ((Buy o month, pos 1) ∷ [])
+      (λ late. no_entry t layout is (Buy o month) (pos 1) (no_purchase t o month offer there late)))
 
-pub sent_listed : (t : Tables) (place commodity month : ℕ)
-    → flat_map (λ a. (Ship a commodity month, neg_ℤ (pos 1)) ∷ []) (departures_from t place) ≡ negation (sent_terms t place commodity month)
-sent_listed t place commodity month =
-    let kept : ℕ × Arc → Terms = λ r. list_if (r.1.from_place == place) ((Ship r.0 commodity month, pos 1) ∷ []) in
-    let signs : over t.arcs (λ a arc. list_if (arc.from_place == place) ((Ship a commodity month, neg_ℤ (pos 1)) ∷ [])) ≡ flat_map (λ r. negation (kept r)) (enumerate_from 0 t.arcs) =
-    ap (λ g. flat_map g (enumerate_from 0 t.arcs)) (fun_ext (λ r. sym (negation-if (r.1.from_place == place) ((Ship r.0 commodity month, pos 1) ∷ [])))) in
-    over_listed (λ a. (Ship a commodity month, neg_ℤ (pos 1)) ∷ []) (λ arc. arc.from_place == place) (λ a _. a) t.arcs
-    ∙ (signs ∙ sym (negation-flat kept (enumerate_from 0 t.arcs)))
+  pub arrived_listed : (place commodity month : ℕ)
+      → entries (flat_map (λ way. list_if (nat_lt way.lead month) ((Ship way.arc commodity (month - way.lead), pos 1) ∷ [])) (arrivals_at t place)) ≡ entries (arrived_terms t place commodity month)
+  arrived_listed place commodity month =
+      ap entries (over_listed (λ way. list_if (nat_lt way.lead month) ((Ship way.arc commodity (month - way.lead), pos 1) ∷ [])) (λ arc. (arc.to_place == place) && arrives_in_plan t arc) (λ a arc. way_of a arc) t.arcs)
+      ∙ same_over layout.quantities (λ a arc. list_if ((arc.to_place == place) && arrives_in_plan t arc) (list_if (nat_lt arc.lead month) ((Ship a commodity (month - arc.lead), pos 1) ∷ [])))
+      (λ a arc. list_if ((arc.to_place == place) && nat_lt arc.lead month) ((Ship a commodity (month - arc.lead), pos 1) ∷ [])) t.arcs
+      (λ a arc there.
+      two_left_out layout.quantities (arc.to_place == place) (arrives_in_plan t arc) (nat_lt arc.lead month) ((Ship a commodity (month - arc.lead), pos 1) ∷ [])
+      (λ late. no_entry t layout is (Ship a commodity (month - arc.lead)) (pos 1) (no_shipment t a commodity (month - arc.lead) arc there late)))
+
+  pub sent_listed : (place commodity month : ℕ)
+      → entries (flat_map (λ way. (Ship way.arc commodity month, neg_ℤ (pos 1)) ∷ []) (departures_from t place)) ≡ entries (negation (sent_terms t place commodity month))
+  sent_listed place commodity month =
+      let kept : ℕ × Arc → Terms = λ r. list_if (r.1.from_place == place) ((Ship r.0 commodity month, pos 1) ∷ []) in
+      let signs : over t.arcs (λ a arc. list_if (arc.from_place == place) ((Ship a commodity month, neg_ℤ (pos 1)) ∷ [])) ≡ flat_map (λ r. negation (kept r)) (enumerate_from 0 t.arcs) =
+      ap (λ g. flat_map g (enumerate_from 0 t.arcs)) (fun_ext (λ r. sym (negation-if (r.1.from_place == place) ((Ship r.0 commodity month, pos 1) ∷ [])))) in
+      ap entries (over_listed (λ way. (Ship way.arc commodity month, neg_ℤ (pos 1)) ∷ []) (λ arc. (arc.from_place == place) && arrives_in_plan t arc) (λ a arc. way_of a arc) t.arcs)
+      ∙ (same_over layout.quantities (λ a arc. list_if ((arc.from_place == place) && arrives_in_plan t arc) ((Ship a commodity month, neg_ℤ (pos 1)) ∷ []))
+      (λ a arc. list_if (arc.from_place == place) ((Ship a commodity month, neg_ℤ (pos 1)) ∷ [])) t.arcs
+      (λ a arc there.
+      one_left_out layout.quantities (arc.from_place == place) (arrives_in_plan t arc) ((Ship a commodity month, neg_ℤ (pos 1)) ∷ [])
+      (λ late. no_entry t layout is (Ship a commodity month) (neg_ℤ (pos 1)) (no_shipment t a commodity month arc there late)))
+      ∙ ap entries (signs ∙ sym (negation-flat kept (enumerate_from 0 t.arcs))))

@@ -77,23 +77,20 @@ record_rows qs = records_step (map (row_over qs)) (rows_join qs)
 pub arc_facts : (t : Tables) → IsModel t → (i : ℕ) (arc : Arc) → i < length t.arcs → arc ≡ get_or t.arcs i arc → IsArc t arc
 arc_facts t model i arc within is = at_there (IsArc t) t.arcs i arc (record { within = within; is = is }) model.arcs
 
--- ten lists of rows one after another
-pub ten_lists : (qs : List Quantity) (a1 a2 a3 a4 a5 a6 a7 a8 a9 : List Row) (cap n0 n1 n2 n3 n4 n5 n6 n7 n8 n9 n10 : List SystemRow) → n0 ≡ []
-    → n1 ≡ n0 ++ map (row_over qs) a1 → n2 ≡ n1 ++ map (row_over qs) a2 → n3 ≡ n2 ++ map (row_over qs) a3 → n4 ≡ n3 ++ map (row_over qs) a4 → n5 ≡ n4 ++ map (row_over qs) a5
-    → n6 ≡ n5 ++ map (row_over qs) a6 → n7 ≡ n6 ++ map (row_over qs) a7 → n8 ≡ n7 ++ map (row_over qs) a8 → n9 ≡ n8 ++ map (row_over qs) a9 → n10 ≡ n9 ++ cap
-    → n10 ≡ map (row_over qs) (a1 ++ (a2 ++ (a3 ++ (a4 ++ (a5 ++ (a6 ++ (a7 ++ (a8 ++ a9)))))))) ++ cap
-ten_lists qs a1 a2 a3 a4 a5 a6 a7 a8 a9 cap n0 n1 n2 n3 n4 n5 n6 n7 n8 n9 n10 e0 e1 e2 e3 e4 e5 e6 e7 e8 e9 e10 =
+-- seven lists of rows one after another
+pub seven_lists : (qs : List Quantity) (a1 a2 a3 a4 a5 a6 a7 a8 a9 : List Row) (cap n0 n1 n2 n3 n4 n5 n6 n7 : List SystemRow) → n0 ≡ []
+    → n1 ≡ n0 ++ map (row_over qs) a1 → n2 ≡ n1 ++ map (row_over qs) a2 → n3 ≡ n2 ++ map (row_over qs) a3 → n4 ≡ n3 ++ map (row_over qs) (a4 ++ (a5 ++ (a6 ++ a7)))
+    → n5 ≡ n4 ++ map (row_over qs) a8 → n6 ≡ n5 ++ map (row_over qs) a9 → n7 ≡ n6 ++ cap
+    → n7 ≡ map (row_over qs) (a1 ++ (a2 ++ (a3 ++ (a4 ++ (a5 ++ (a6 ++ (a7 ++ (a8 ++ a9)))))))) ++ cap
+seven_lists qs a1 a2 a3 a4 a5 a6 a7 a8 a9 cap n0 n1 n2 n3 n4 n5 n6 n7 e0 e1 e2 e3 e4 e5 e6 e7 =
     let p1 : n1 ≡ map (row_over qs) a1 = e1 ∙ ap (λ n. n ++ map (row_over qs) a1) e0 in
     let p2 : n2 ≡ map (row_over qs) (a1 ++ a2) = more n1 n2 a1 a2 p1 e2 in
     let p3 : n3 ≡ map (row_over qs) ((a1 ++ a2) ++ a3) = more n2 n3 (a1 ++ a2) a3 p2 e3 in
-    let p4 : n4 ≡ map (row_over qs) (((a1 ++ a2) ++ a3) ++ a4) = more n3 n4 ((a1 ++ a2) ++ a3) a4 p3 e4 in
-    let p5 : n5 ≡ map (row_over qs) ((((a1 ++ a2) ++ a3) ++ a4) ++ a5) = more n4 n5 (((a1 ++ a2) ++ a3) ++ a4) a5 p4 e5 in
-    let p6 : n6 ≡ map (row_over qs) (((((a1 ++ a2) ++ a3) ++ a4) ++ a5) ++ a6) = more n5 n6 ((((a1 ++ a2) ++ a3) ++ a4) ++ a5) a6 p5 e6 in
-    let p7 : n7 ≡ map (row_over qs) ((((((a1 ++ a2) ++ a3) ++ a4) ++ a5) ++ a6) ++ a7) = more n6 n7 (((((a1 ++ a2) ++ a3) ++ a4) ++ a5) ++ a6) a7 p6 e7 in
-    let p8 : n8 ≡ map (row_over qs) (((((((a1 ++ a2) ++ a3) ++ a4) ++ a5) ++ a6) ++ a7) ++ a8) = more n7 n8 ((((((a1 ++ a2) ++ a3) ++ a4) ++ a5) ++ a6) ++ a7) a8 p7 e8 in
-    let p9 : n9 ≡ map (row_over qs) ((((((((a1 ++ a2) ++ a3) ++ a4) ++ a5) ++ a6) ++ a7) ++ a8) ++ a9) = more n8 n9 (((((((a1 ++ a2) ++ a3) ++ a4) ++ a5) ++ a6) ++ a7) ++ a8) a9 p8 e9 in
-    let flat : ((((((((a1 ++ a2) ++ a3) ++ a4) ++ a5) ++ a6) ++ a7) ++ a8) ++ a9) ≡ a1 ++ (a2 ++ (a3 ++ (a4 ++ (a5 ++ (a6 ++ (a7 ++ (a8 ++ a9))))))) = simp append_assoc in
-    e10 ∙ ap (λ n. n ++ cap) (p9 ∙ ap (map (row_over qs)) flat)
+    let p4 : n4 ≡ map (row_over qs) (((a1 ++ a2) ++ a3) ++ (a4 ++ (a5 ++ (a6 ++ a7)))) = more n3 n4 ((a1 ++ a2) ++ a3) (a4 ++ (a5 ++ (a6 ++ a7))) p3 e4 in
+    let p5 : n5 ≡ map (row_over qs) ((((a1 ++ a2) ++ a3) ++ (a4 ++ (a5 ++ (a6 ++ a7)))) ++ a8) = more n4 n5 (((a1 ++ a2) ++ a3) ++ (a4 ++ (a5 ++ (a6 ++ a7)))) a8 p4 e5 in
+    let p6 : n6 ≡ map (row_over qs) (((((a1 ++ a2) ++ a3) ++ (a4 ++ (a5 ++ (a6 ++ a7)))) ++ a8) ++ a9) = more n5 n6 ((((a1 ++ a2) ++ a3) ++ (a4 ++ (a5 ++ (a6 ++ a7)))) ++ a8) a9 p5 e6 in
+    let flat : ((((a1 ++ a2) ++ a3) ++ (a4 ++ (a5 ++ (a6 ++ a7)))) ++ a8) ++ a9 ≡ a1 ++ (a2 ++ (a3 ++ (a4 ++ (a5 ++ (a6 ++ (a7 ++ (a8 ++ a9))))))) = simp append_assoc in
+    e7 ∙ ap (λ n. n ++ cap) (p6 ∙ ap (map (row_over qs)) flat)
   where
     more : (now new : List SystemRow) (all part : List Row) → now ≡ map (row_over qs) all → new ≡ now ++ map (row_over qs) part → new ≡ map (row_over qs) (all ++ part)
     more now new all part so_far added = added ∙ (ap (λ n. n ++ map (row_over qs) part) so_far ∙ sym (rows_join qs all part))
@@ -126,6 +123,11 @@ pair_added qs name a c q z right n0 n1 n2 old new e0 e1 e2 quantity coefficient 
 pub both_rows : (qs : List Quantity) (xs ys : List Row) (old now new : List SystemRow) → now ≡ old ++ map (row_over qs) xs → new ≡ now ++ map (row_over qs) ys
     → new ≡ old ++ map (row_over qs) (xs ++ ys)
 both_rows qs xs ys old now new first second = part_step (map (row_over qs)) (rows_join qs) old now new xs ys (xs ++ ys) first second refl
+
+-- four lists of rows after rows
+pub four_lists : (qs : List Quantity) (a b c d : List Row) (n0 n1 n2 n3 n4 : List SystemRow) → n1 ≡ n0 ++ map (row_over qs) a → n2 ≡ n1 ++ map (row_over qs) b
+    → n3 ≡ n2 ++ map (row_over qs) c → n4 ≡ n3 ++ map (row_over qs) d → n4 ≡ n0 ++ map (row_over qs) (a ++ (b ++ (c ++ d)))
+four_lists qs a b c d n0 n1 n2 n3 n4 e1 e2 e3 e4 = both_rows qs a (b ++ (c ++ d)) n0 n1 n4 e1 (both_rows qs b (c ++ d) n1 n2 n4 e2 (both_rows qs c d n2 n3 n4 e3 e4))
 
 -- a term of this quantity and coefficient
 pub term_is : (c : Quantity × ℤ) (q : Quantity) (z : ℤ) → c.0 ≡ q → c.1 ≡ z → c ≡ (q, z)

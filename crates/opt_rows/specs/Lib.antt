@@ -5,4 +5,5 @@ pub mod Gathering
 pub mod Costs
 pub mod Counting
 pub mod Parts
+pub mod Piles
 pub mod Listed

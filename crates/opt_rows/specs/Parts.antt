@@ -3,7 +3,7 @@ use Rattle.std.specs.Prelude.{ℕ, List, [], ◌∷◌, ◌++◌, ℤ, pos, neg_
 use Rattle.opt_model.specs.Settings.{days_of}
 use Rattle.opt_model.specs.Tables.{Tables, heads_at, stock_at}
 use Rattle.opt_model.specs.Quantities.{step_of}
-use Rattle.opt_model.specs.Rows.{Row, Terms, at_least_row, at_most_row, equal_row, negation, nutrient_terms, group_terms, handed_terms, bought_terms, arrived_terms, kept_terms, sent_terms}
+use Rattle.opt_model.specs.Rows.{Row, Terms, at_least_row, at_most_row, equal_row, negation, nutrient_terms, group_terms, handed_terms, bought_terms, arrived_terms, kept_terms, sent_terms, balance_rows, arc_rows, storage_rows, throughput_rows}
 use Rattle.opt_model.specs.declared.records.Group.{Group}
 use Rattle.opt_model.specs.declared.records.Need.{Need}
 use Rattle.opt_model.specs.declared.quantity.Quantity.TheVariants.{Short, Keep, Feed}
@@ -38,3 +38,7 @@ balance_terms t p c m =
 -- the balance of a commodity at a place in a month
 abbrev pub balance_row : Tables → ℕ → ℕ → ℕ → List Row
 balance_row t p c m = equal_row (row.Balance p c m) (balance_terms t p c m) (neg_ℤ (stock_at t p c m))
+
+-- the rows of balances, arcs, storage and throughput
+abbrev pub network_rows : Tables → List Row
+network_rows t = balance_rows t ++ (arc_rows t ++ (storage_rows t ++ throughput_rows t))

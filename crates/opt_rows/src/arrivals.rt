@@ -5,7 +5,7 @@ ghost use Rattle.opt_model.specs.Quantities.{list_if};
 ghost use Rattle.opt_model.specs.declared.quantity.Quantity.TheVariants.{Ship};
 ghost use Rattle.opt_rows.specs.Gathering.{entries_of};
 
-use crate::flows::Arrival;
+use crate::flows::Way;
 use crate::spot::Spot;
 use crate::term_buffer::TermBuffer;
 use opt_base::OutOfMemory;
@@ -14,7 +14,7 @@ use opt_network::Layout;
 use std::alloc::AllocError;
 
 /// What leaves on an arc so that it arrives at a spot.
-fn shipment(arrival: Arrival, spot: Spot) -> Quantity
+fn shipment(arrival: Way, spot: Spot) -> Quantity
     requires { arrival.lead < spot.month }
     ensures { result ≡ Ship arrival.arc spot.commodity (spot.month - arrival.lead) }
 {
@@ -29,7 +29,7 @@ fn shipment(arrival: Arrival, spot: Spot) -> Quantity
 fn add_arrival(
     terms: &mut TermBuffer,
     layout: &Layout,
-    arrival: Arrival,
+    arrival: Way,
     spot: Spot,
 ) -> Result<(), AllocError>
     ensures { OnOk result (terms.new ≡ terms.old ++ entries_of layout.now.quantities
@@ -46,7 +46,7 @@ fn add_arrival(
 pub fn add_arrivals(
     terms: &mut TermBuffer,
     layout: &Layout,
-    arrivals: &[Arrival],
+    arrivals: &[Way],
     spot: Spot,
 ) -> Result<(), OutOfMemory>
     ensures { OnOk result (terms.new ≡ terms.old ++ entries_of layout.now.quantities

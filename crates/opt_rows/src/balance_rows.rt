@@ -1,6 +1,6 @@
 //! The rows of the balances.
 ghost use Rattle.std.specs.Prelude.{◌≡◌, ◌<◌, ◌-◌, ◌^◌, [], ◌∷◌, ◌++◌, ◌==◌};
-ghost use Rattle.std.specs.Prelude.{map, pos, neg_ℤ, OnOk};
+ghost use Rattle.std.specs.Prelude.{map, length, pos, neg_ℤ, OnOk};
 ghost use Rattle.std.specs.List.{flat_map};
 ghost use Rattle.opt_model.specs.Tables.{stock_at};
 ghost use Rattle.opt_model.specs.Quantities.{over, over_months, list_if};
@@ -9,14 +9,14 @@ ghost use Rattle.opt_model.specs.declared.quantity.Quantity.TheVariants.{Buy, Sh
 ghost use Rattle.opt_tables.specs.Facts.{IsModel, IsFrom};
 ghost use Rattle.opt_network.specs.Numbering.{IsLayoutOf};
 ghost use Rattle.opt_rows.specs.Gathering.{entries_of};
-ghost use Rattle.opt_rows.specs.Listed.{AreFlowsOf};
+ghost use Rattle.opt_rows.specs.Listed.{AreFlowsOf, IsNetworkOf};
 ghost use Rattle.opt_rows.specs.Parts.{balance_row, balance_terms};
 ghost use Rattle.opt_rows.specs.Systems.{row_over};
 
 use crate::arrivals::add_arrivals;
 use crate::conditional_terms::add_term_if;
 use crate::counts::{commodity_count, month_count, place_count};
-use crate::flows::{Flows, Sale, flows_of};
+use crate::flows::{Flows, Network, Sale, Way};
 use crate::spot::{Spot, handed_out};
 use crate::term_buffer::{TermBuffer, push_equal};
 use opt_base::OutOfMemory;
@@ -85,15 +85,16 @@ fn add_kept(terms: &mut TermBuffer, layout: &Layout, spot: Spot) -> Result<(), A
 fn add_departures(
     terms: &mut TermBuffer,
     layout: &Layout,
-    departures: &[u32],
+    departures: &[Way],
     spot: Spot,
 ) -> Result<(), OutOfMemory>
     ensures { OnOk result (terms.new ≡ terms.old ++ entries_of layout.now.quantities
-        (flat_map (λ a. (Ship a spot.commodity spot.month, neg_ℤ (pos 1)) ∷ []) departures.now)) }
+        (flat_map (λ way. (Ship way.arc spot.commodity spot.month, neg_ℤ (pos 1)) ∷ [])
+        departures.now)) }
 {
-    for arc in departures {
+    for way in departures {
         let ship = Quantity::Ship {
-            arc: *arc,
+            arc: way.arc,
             commodity: spot.commodity,
             month: spot.month,
         };
@@ -118,18 +119,19 @@ fn add_terms(
     terms: &mut TermBuffer,
     tables: &Tables,
     layout: &Layout,
-    flows: &Flows,
+    flows: &Flows<'_>,
     spot: Spot,
 ) -> Result<(), OutOfMemory>
+    requires layout { IsLayoutOf tables.now layout.now }
     requires flows { AreFlowsOf tables.now flows.now }
     requires place { spot.place ≡ flows.now.place }
     ensures { OnOk result (terms.new ≡ terms.old ++ entries_of layout.now.quantities
         (balance_terms tables.now spot.place spot.commodity spot.month)) }
 {
-    add_bought(terms, layout, flows.sales.as_slice(), spot)?;
-    add_arrivals(terms, layout, flows.arrivals.as_slice(), spot)?;
+    add_bought(terms, layout, flows.sales, spot)?;
+    add_arrivals(terms, layout, flows.arrivals, spot)?;
     add_kept(terms, layout, spot)?;
-    add_departures(terms, layout, flows.departures.as_slice(), spot)?;
+    add_departures(terms, layout, flows.departures, spot)?;
     add_uses(terms, layout, spot)?;
     Ok(())
 }
@@ -157,7 +159,7 @@ fn add_row(
     alloc: Global,
     tables: &Tables,
     layout: &Layout,
-    flows: &Flows,
+    flows: &Flows<'_>,
     spot: Spot,
 ) -> Result<(), OutOfMemory>
     requires model { IsModel tables.now }
@@ -179,7 +181,7 @@ fn add_months(
     alloc: Global,
     tables: &Tables,
     layout: &Layout,
-    flows: &Flows,
+    flows: &Flows<'_>,
     commodity: u32,
 ) -> Result<(), OutOfMemory>
     requires model { IsModel tables.now }
@@ -205,7 +207,7 @@ fn add_commodities(
     alloc: Global,
     tables: &Tables,
     layout: &Layout,
-    flows: &Flows,
+    flows: &Flows<'_>,
 ) -> Result<(), OutOfMemory>
     requires model { IsModel tables.now }
     requires layout { IsLayoutOf tables.now layout.now }
@@ -226,15 +228,23 @@ fn add_place(
     alloc: Global,
     tables: &Tables,
     layout: &Layout,
+    network: &Network,
     place: u32,
 ) -> Result<(), OutOfMemory>
     requires model { IsModel tables.now }
     requires layout { IsLayoutOf tables.now layout.now }
+    requires network { IsNetworkOf tables.now network.now }
+    requires place { place < length tables.now.places }
     ensures { OnOk result (rows.new ≡ rows.old ++ map (row_over layout.now.quantities)
         (over tables.now.commodities λ c _.
         over_months tables.now (balance_row tables.now place c))) }
 {
-    let flows = flows_of(alloc, tables, place)?;
+    let flows = Flows {
+        place,
+        sales: network.sales(place),
+        arrivals: network.arrivals(place),
+        departures: network.departures(place),
+    };
     add_commodities(rows, alloc, tables, layout, &flows)?;
     Ok(())
 }
@@ -245,14 +255,16 @@ pub fn add_balance_rows(
     alloc: Global,
     tables: &Tables,
     layout: &Layout,
+    network: &Network,
 ) -> Result<(), OutOfMemory>
-    requires { IsLayoutOf tables.now layout.now }
+    requires layout { IsLayoutOf tables.now layout.now }
+    requires network { IsNetworkOf tables.now network.now }
     ensures { OnOk result (rows.new
         ≡ rows.old ++ map (row_over layout.now.quantities) (balance_rows tables.now)) }
 {
     let _settings = tables.settings();
     for place in 0..place_count(tables) {
-        add_place(rows, alloc, tables, layout, place)?;
+        add_place(rows, alloc, tables, layout, network, place)?;
     }
     Ok(())
 }

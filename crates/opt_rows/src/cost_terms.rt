@@ -1,13 +1,15 @@
 //! The terms of what a plan costs: what is bought, shipped and kept, and the fees of orders.
-ghost use Rattle.std.specs.Prelude.{◌≡◌, [], ◌∷◌, ◌++◌, ◌+ℤ◌, OnOk};
+ghost use Rattle.std.specs.Prelude.{◌≡◌, [], ◌∷◌, ◌++◌, ◌+ℤ◌, slice_get, Some, OnOk};
 ghost use Rattle.opt_model.specs.Quantities.{over, over_months, of_record};
 ghost use Rattle.opt_model.specs.Rows.{cost_terms};
 ghost use Rattle.opt_model.specs.declared.quantity.Quantity.TheVariants.{Buy, Ship, Keep, Order};
 ghost use Rattle.opt_tables.specs.Facts.{IsPrice};
+ghost use Rattle.opt_network.specs.Numbering.{IsLayoutOf};
 ghost use Rattle.opt_rows.specs.Gathering.{entries_of};
 
 use crate::costs::shipping_on;
 use crate::counts::{arc_count, commodity_count, month_count, offer_count, place_count};
+use crate::flows::arrives_in_plan;
 use crate::term_buffer::TermBuffer;
 use opt_base::OutOfMemory;
 use opt_model::{Arc, Offer, Place, Quantity};
@@ -122,12 +124,36 @@ fn add_shipments_on(
     Ok(())
 }
 
+/// Adds what is shipped on an arc. Where nothing that leaves on it arrives in the plan, no such quantity exists.
+fn add_shipments_if(
+    terms: &mut TermBuffer,
+    tables: &Tables,
+    layout: &Layout,
+    number: u32,
+    arc: &Arc,
+) -> Result<(), OutOfMemory>
+    requires layout { IsLayoutOf tables.now layout.now }
+    requires arc { slice_get tables.now.arcs number ≡ Some arc.now }
+    requires price { IsPrice arc.now.cost }
+    ensures { OnOk result (terms.new ≡ terms.old ++ entries_of layout.now.quantities
+        (over tables.now.commodities λ c _. over_months tables.now λ m. (
+          Ship number c m,
+          arc.now.cost +ℤ of_record tables.now.places arc.now.to_place (λ r. r.handling),
+        ) ∷ [])) }
+{
+    if arrives_in_plan(tables, arc) {
+        add_shipments_on(terms, tables, layout, number, arc)?;
+    }
+    Ok(())
+}
+
 /// Adds what is shipped on all arcs.
 fn add_shipments(
     terms: &mut TermBuffer,
     tables: &Tables,
     layout: &Layout,
 ) -> Result<(), OutOfMemory>
+    requires { IsLayoutOf tables.now layout.now }
     ensures { OnOk result (terms.new ≡ terms.old ++ entries_of layout.now.quantities
         (over tables.now.arcs λ a arc. over tables.now.commodities λ c _.
         over_months tables.now λ m. (
@@ -139,7 +165,7 @@ fn add_shipments(
     let arcs = tables.arcs();
     for number in 0..arc_count(tables) {
         let arc = &arcs[number as usize];
-        add_shipments_on(terms, tables, layout, number, arc)?;
+        add_shipments_if(terms, tables, layout, number, arc)?;
     }
     Ok(())
 }
@@ -255,6 +281,7 @@ pub fn add_costs(
     tables: &Tables,
     layout: &Layout,
 ) -> Result<(), OutOfMemory>
+    requires { IsLayoutOf tables.now layout.now }
     ensures { OnOk result (terms.new
         ≡ terms.old ++ entries_of layout.now.quantities (cost_terms tables.now)) }
 {

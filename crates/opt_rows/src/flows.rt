@@ -1,10 +1,11 @@
-//! What comes to a place and what leaves it.
-ghost use Rattle.std.specs.Prelude.{◌≡◌, [], ◌∷◌, ◌++◌, ◌==◌, OnOk, IfOk};
-ghost use Rattle.opt_model.specs.Quantities.{list_if};
+//! What comes to each place and what leaves it.
+ghost use Rattle.std.specs.Prelude.{◌≡◌, ◌<◌, length, IfOk};
 ghost use Rattle.opt_tables.specs.Facts.{IsModel};
-ghost use Rattle.opt_rows.specs.Listed.{sale_of, sales_at, arrival_of, arrivals_at};
-ghost use Rattle.opt_rows.specs.Listed.{departures_from, AreFlowsOf};
+ghost use Rattle.opt_rows.specs.Piles.{pile_at, ArePiles};
+ghost use Rattle.opt_rows.specs.Listed.{sale_of, sales_at, way_of, arrivals_at, departures_from};
+ghost use Rattle.opt_rows.specs.Listed.{begins_in_plan, arrives_in_plan, IsNetworkOf};
 
+use crate::piles::Piles;
 use opt_model::{Arc, Offer};
 use opt_tables::Tables;
 use std::alloc::{AllocError, Global};
@@ -16,121 +17,143 @@ pub struct Sale {
     pub commodity: u32,
 }
 
-/// An arc by which food arrives, by the number of its record, with its lead time in months.
+/// An arc by the number of its record, with its lead time in months.
 #[derive(Clone, Copy, Debug, PartialEq, Eq)]
-pub struct Arrival {
+pub struct Way {
     pub arc: u32,
     pub lead: u32,
 }
 
-/// The offers at a place and its arcs, in the order of their numbers.
-#[derive(Debug, Drop)]
-pub struct Flows {
+/// What comes to a place and what leaves it.
+#[derive(Clone, Copy)]
+pub struct Flows<'a> {
     pub place: u32,
-    pub sales: Vec<Sale>,
-    pub arrivals: Vec<Arrival>,
-    /// The numbers of the arcs that lead from the place.
-    pub departures: Vec<u32>,
+    pub sales: &'a [Sale],
+    /// The arcs that lead to the place.
+    pub arrivals: &'a [Way],
+    /// The arcs that lead from the place.
+    pub departures: &'a [Way],
 }
 
-/// Adds an offer, where it stands at this place.
-fn add_sale(sales: &mut Vec<Sale>, number: u32, offer: &Offer, place: u32) -> Result<(), AllocError>
-    ensures { OnOk result (sales.new.items ≡ sales.old.items
-        ++ list_if (offer.now.place == place) (sale_of number offer.now ∷ [])) }
+/// For each place the offers that stand there and the arcs that lead to it and from it, in the order of their numbers. What
+/// has no quantity in any month of the plan is left out.
+#[derive(Debug, Drop)]
+pub struct Network {
+    sales: Piles<Sale>,
+    arrivals: Piles<Way>,
+    departures: Piles<Way>,
+}
+
+/// What an offer sells.
+fn sale_of(number: u32, offer: &Offer) -> Sale
+    ensures { result ≡ sale_of number offer.now }
 {
-    if offer.place == place {
-        sales.push(Sale {
-            offer: number,
-            commodity: offer.commodity,
-        })?;
+    Sale {
+        offer: number,
+        commodity: offer.commodity,
     }
-    Ok(())
 }
 
-/// What the offers at a place sell.
-fn sales_at(alloc: Global, tables: &Tables, place: u32) -> Result<Vec<Sale>, AllocError>
-    requires { IsModel tables.now }
-    ensures { IfOk result (λ sales. sales.items ≡ sales_at tables.now place) }
+/// An arc with its number.
+fn way_of(number: u32, arc: &Arc) -> Way
+    ensures { result ≡ way_of number arc.now }
 {
-    let mut sales = Vec::new(alloc);
+    Way {
+        arc: number,
+        lead: arc.lead,
+    }
+}
+
+/// Whether an offer stands from a month of the plan on.
+fn begins_in_plan(tables: &Tables, offer: &Offer) -> bool
+    ensures { result ≡ begins_in_plan tables.now offer.now }
+{
+    offer.first <= tables.settings().months()
+}
+
+/// Whether what leaves on an arc can arrive in a month of the plan.
+pub fn arrives_in_plan(tables: &Tables, arc: &Arc) -> bool
+    ensures { result ≡ arrives_in_plan tables.now arc.now }
+{
+    arc.lead < tables.settings().months()
+}
+
+/// What the offers sell, by their places.
+fn sales_of(alloc: Global, tables: &Tables) -> Result<Piles<Sale>, AllocError>
+    requires { IsModel tables.now }
+    ensures { IfOk result (ArePiles (length tables.now.places) (sales_at tables.now)) }
+{
+    let mut sales = Piles::new(alloc, tables.places().len())?;
     for (number, offer) in tables.offers().iter().enumerate() {
-        add_sale(&mut sales, number as u32, offer, place)?;
+        let sale = sale_of(number as u32, offer);
+        sales.add_if(begins_in_plan(tables, offer), offer.place, sale)?;
     }
     Ok(sales)
 }
 
-/// Adds an arc, where it leads to this place.
-fn add_arrival(
-    arrivals: &mut Vec<Arrival>,
-    number: u32,
-    arc: &Arc,
-    place: u32,
-) -> Result<(), AllocError>
-    ensures { OnOk result (arrivals.new.items ≡ arrivals.old.items
-        ++ list_if (arc.now.to_place == place) (arrival_of number arc.now ∷ [])) }
-{
-    if arc.to_place == place {
-        arrivals.push(Arrival {
-            arc: number,
-            lead: arc.lead,
-        })?;
-    }
-    Ok(())
-}
-
-/// The arcs that lead to a place.
-pub fn arrivals_at(alloc: Global, tables: &Tables, place: u32) -> Result<Vec<Arrival>, AllocError>
+/// The arcs, by the places that they lead to.
+fn arrivals_of(alloc: Global, tables: &Tables) -> Result<Piles<Way>, AllocError>
     requires { IsModel tables.now }
-    ensures { IfOk result (λ arrivals. arrivals.items ≡ arrivals_at tables.now place) }
+    ensures { IfOk result (ArePiles (length tables.now.places) (arrivals_at tables.now)) }
 {
-    let mut arrivals = Vec::new(alloc);
+    let mut arrivals = Piles::new(alloc, tables.places().len())?;
     for (number, arc) in tables.arcs().iter().enumerate() {
-        add_arrival(&mut arrivals, number as u32, arc, place)?;
+        let way = way_of(number as u32, arc);
+        arrivals.add_if(arrives_in_plan(tables, arc), arc.to_place, way)?;
     }
     Ok(arrivals)
 }
 
-/// Adds an arc, where it leads from this place.
-fn add_departure(
-    departures: &mut Vec<u32>,
-    number: u32,
-    arc: &Arc,
-    place: u32,
-) -> Result<(), AllocError>
-    ensures { OnOk result (departures.new.items ≡ departures.old.items
-        ++ list_if (arc.now.from_place == place) (number ∷ [])) }
-{
-    if arc.from_place == place {
-        departures.push(number)?;
-    }
-    Ok(())
-}
-
-/// The arcs that lead from a place.
-fn departures_from(alloc: Global, tables: &Tables, place: u32) -> Result<Vec<u32>, AllocError>
+/// The arcs, by the places that they lead from.
+fn departures_of(alloc: Global, tables: &Tables) -> Result<Piles<Way>, AllocError>
     requires { IsModel tables.now }
-    ensures { IfOk result (λ departures. departures.items ≡ departures_from tables.now place) }
+    ensures { IfOk result (ArePiles (length tables.now.places) (departures_from tables.now)) }
 {
-    let mut departures = Vec::new(alloc);
+    let mut departures = Piles::new(alloc, tables.places().len())?;
     for (number, arc) in tables.arcs().iter().enumerate() {
-        add_departure(&mut departures, number as u32, arc, place)?;
+        let way = way_of(number as u32, arc);
+        departures.add_if(arrives_in_plan(tables, arc), arc.from_place, way)?;
     }
     Ok(departures)
 }
 
-/// The offers at a place and its arcs.
-pub fn flows_of(alloc: Global, tables: &Tables, place: u32) -> Result<Flows, AllocError>
-    requires { IsModel tables.now }
-    ensures place { IfOk result (λ flows. flows.place ≡ place) }
-    ensures flows { IfOk result (AreFlowsOf tables.now) }
-{
-    let sales = sales_at(alloc, tables, place)?;
-    let arrivals = arrivals_at(alloc, tables, place)?;
-    let departures = departures_from(alloc, tables, place)?;
-    Ok(Flows {
-        place,
-        sales,
-        arrivals,
-        departures,
-    })
+impl Network {
+    /// The offers and the arcs of a model, each looked at once.
+    pub fn of_tables(alloc: Global, tables: &Tables) -> Result<Network, AllocError>
+        requires { IsModel tables.now }
+        ensures { IfOk result (IsNetworkOf tables.now) }
+    {
+        let sales = sales_of(alloc, tables)?;
+        let arrivals = arrivals_of(alloc, tables)?;
+        let departures = departures_of(alloc, tables)?;
+        Ok(Network {
+            sales,
+            arrivals,
+            departures,
+        })
+    }
+
+    /// The offers at a place.
+    pub fn sales(&self, place: u32) -> &[Sale]
+        requires { place < length self.now.sales }
+        ensures { result.now ≡ pile_at self.now.sales place }
+    {
+        self.sales.pile(place)
+    }
+
+    /// The arcs that lead to a place.
+    pub fn arrivals(&self, place: u32) -> &[Way]
+        requires { place < length self.now.arrivals }
+        ensures { result.now ≡ pile_at self.now.arrivals place }
+    {
+        self.arrivals.pile(place)
+    }
+
+    /// The arcs that lead from a place.
+    pub fn departures(&self, place: u32) -> &[Way]
+        requires { place < length self.now.departures }
+        ensures { result.now ≡ pile_at self.now.departures place }
+    {
+        self.departures.pile(place)
+    }
 }

@@ -1,9 +1,11 @@
 //! What the steps of rations hold of a nutrient.
-ghost use Rattle.std.specs.Prelude.{◌≡◌, ◌^◌, [], ◌∷◌, ◌++◌, ◌==◌, ◌*ℤ◌, pos, OnOk, IfOk};
-ghost use Rattle.opt_model.specs.Quantities.{list_if, step_of};
+ghost use Rattle.std.specs.Prelude.{◌≡◌, ◌^◌, ◌*ℤ◌, length, pos, IfOk};
+ghost use Rattle.opt_model.specs.Quantities.{step_of};
 ghost use Rattle.opt_tables.specs.Facts.{IsModel, IsFrom};
 ghost use Rattle.opt_rows.specs.Listed.{step_content_of, step_contents};
+ghost use Rattle.opt_rows.specs.Piles.{ArePiles};
 
+use crate::piles::Piles;
 use crate::steps::step_of;
 use opt_tables::{Content, Tables};
 use std::alloc::{AllocError, Global};
@@ -25,39 +27,26 @@ fn units(tables: &Tables, content: &Content) -> i64
     content.per_100g * step_of(tables, content.commodity)
 }
 
-/// Adds a content, where it is one of this nutrient.
-fn add_content(
-    contents: &mut Vec<StepContent>,
-    tables: &Tables,
-    content: &Content,
-    nutrient: u32,
-) -> Result<(), AllocError>
+/// What a step of a commodity's ration holds.
+fn step_content(tables: &Tables, content: &Content) -> StepContent
     requires { IsFrom (pos 0) (pos (10 ^ 6)) content.now.per_100g }
-    ensures { OnOk result (contents.new.items ≡ contents.old.items
-        ++ list_if (content.now.nutrient == nutrient)
-        (step_content_of tables.now content.now ∷ [])) }
+    ensures { result ≡ step_content_of tables.now content.now }
 {
-    if content.nutrient == nutrient {
-        contents.push(StepContent {
-            commodity: content.commodity,
-            units: units(tables, content),
-        })?;
+    StepContent {
+        commodity: content.commodity,
+        units: units(tables, content),
     }
-    Ok(())
 }
 
-/// What the steps of all commodities hold of a nutrient.
-pub fn step_contents(
-    alloc: Global,
-    tables: &Tables,
-    nutrient: u32,
-) -> Result<Vec<StepContent>, AllocError>
+/// What the steps of all commodities hold, by the nutrients.
+pub fn step_contents(alloc: Global, tables: &Tables) -> Result<Piles<StepContent>, AllocError>
     requires { IsModel tables.now }
-    ensures { IfOk result (λ contents. contents.items ≡ step_contents tables.now nutrient) }
+    ensures { IfOk result
+        (ArePiles (length tables.now.nutrients) (step_contents tables.now)) }
 {
-    let mut contents = Vec::new(alloc);
+    let mut contents = Piles::new(alloc, tables.nutrients().len())?;
     for content in tables.contents() {
-        add_content(&mut contents, tables, content, nutrient)?;
+        contents.add(content.nutrient, step_content(tables, content))?;
     }
     Ok(contents)
 }

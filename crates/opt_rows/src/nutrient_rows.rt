@@ -1,5 +1,5 @@
 //! The rows of what the needs require.
-ghost use Rattle.std.specs.Prelude.{◌≡◌, [], ◌∷◌, ◌++◌, map, pos, ◌*ℤ◌, OnOk};
+ghost use Rattle.std.specs.Prelude.{◌≡◌, ◌<◌, [], ◌∷◌, ◌++◌, map, length, pos, ◌*ℤ◌, OnOk};
 ghost use Rattle.std.specs.List.{flat_map};
 ghost use Rattle.opt_model.specs.Quantities.{over_months};
 ghost use Rattle.opt_model.specs.Rows.{nutrient_terms, nutrient_rows};
@@ -9,10 +9,12 @@ ghost use Rattle.opt_network.specs.Numbering.{IsLayoutOf};
 ghost use Rattle.opt_rows.specs.Gathering.{entries_of};
 ghost use Rattle.opt_rows.specs.Listed.{step_contents};
 ghost use Rattle.opt_rows.specs.Parts.{nutrient_row};
+ghost use Rattle.opt_rows.specs.Piles.{ArePiles};
 ghost use Rattle.opt_rows.specs.Systems.{row_over};
 
 use crate::counts::month_count;
 use crate::nutrient_contents::{StepContent, step_contents};
+use crate::piles::Piles;
 use crate::term_buffer::{TermBuffer, push_at_least};
 use opt_base::OutOfMemory;
 use opt_model::{Need, Quantity};
@@ -133,20 +135,23 @@ fn add_need(
     alloc: Global,
     tables: &Tables,
     layout: &Layout,
+    contents: &Piles<StepContent>,
     number: u32,
     need: &Need,
 ) -> Result<(), OutOfMemory>
     requires model { IsModel tables.now }
     requires layout { IsLayoutOf tables.now layout.now }
+    requires contents { ArePiles (length tables.now.nutrients) (step_contents tables.now)
+        contents.now }
+    requires nutrient { need.now.nutrient < length tables.now.nutrients }
     requires need { IsNeed need.now }
     ensures { OnOk result (rows.new ≡ rows.old ++ map (row_over layout.now.quantities)
         (over_months tables.now (nutrient_row tables.now number need.now))) }
 {
-    let contents = step_contents(alloc, tables, need.nutrient)?;
     let demand = Demand {
         number,
         need,
-        contents: contents.as_slice(),
+        contents: contents.pile(need.nutrient),
     };
     add_months(rows, alloc, tables, layout, &demand)?;
     Ok(())
@@ -164,8 +169,9 @@ pub fn add_nutrient_rows(
         ≡ rows.old ++ map (row_over layout.now.quantities) (nutrient_rows tables.now)) }
 {
     let _settings = tables.settings();
+    let contents = step_contents(alloc, tables)?;
     for (number, need) in tables.needs().iter().enumerate() {
-        add_need(rows, alloc, tables, layout, number as u32, need)?;
+        add_need(rows, alloc, tables, layout, &contents, number as u32, need)?;
     }
     Ok(())
 }

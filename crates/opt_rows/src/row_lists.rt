@@ -4,15 +4,12 @@ ghost use Rattle.opt_network.specs.Numbering.{IsLayoutOf};
 ghost use Rattle.opt_read.specs.Setup.{IsAmount};
 ghost use Rattle.opt_rows.specs.Systems.{system_rows};
 
-use crate::arc_rows::add_arc_rows;
-use crate::balance_rows::add_balance_rows;
 use crate::goal_rows::{add_budget_row, add_cap_row};
 use crate::group_rows::add_group_rows;
 use crate::handout_rows::add_handout_rows;
 use crate::lot_rows::add_lot_rows;
+use crate::network_rows::add_network_rows;
 use crate::nutrient_rows::add_nutrient_rows;
-use crate::storage_rows::add_storage_rows;
-use crate::throughput_rows::add_throughput_rows;
 use opt_base::OutOfMemory;
 use opt_network::Layout;
 use opt_system::RowList;
@@ -34,10 +31,7 @@ pub fn list_rows(
     add_nutrient_rows(&mut rows, alloc, tables, layout)?;
     add_group_rows(&mut rows, alloc, tables, layout)?;
     add_handout_rows(&mut rows, alloc, tables, layout)?;
-    add_balance_rows(&mut rows, alloc, tables, layout)?;
-    add_arc_rows(&mut rows, alloc, tables, layout)?;
-    add_storage_rows(&mut rows, alloc, tables, layout)?;
-    add_throughput_rows(&mut rows, alloc, tables, layout)?;
+    add_network_rows(&mut rows, alloc, tables, layout)?;
     add_budget_row(&mut rows, alloc, tables, layout)?;
     add_lot_rows(&mut rows, alloc, tables, layout)?;
     add_cap_row(&mut rows, alloc, tables, layout, cap)?;

@@ -1,16 +1,16 @@
 //! The rows of what arrives at the places.
-ghost use Rattle.std.specs.Prelude.{◌≡◌, ◌++◌, map, Some, pos, ◌≤ℤ◌, OnOk, IfSome};
+ghost use Rattle.std.specs.Prelude.{◌≡◌, ◌<◌, ◌++◌, map, length, Some, pos, ◌≤ℤ◌, OnOk, IfSome};
 ghost use Rattle.opt_model.specs.Quantities.{over, over_months};
 ghost use Rattle.opt_model.specs.Rows.{arrived_terms, throughput_row, throughput_rows};
-ghost use Rattle.opt_tables.specs.Facts.{IsKilograms, IsModel};
+ghost use Rattle.opt_tables.specs.Facts.{IsKilograms};
 ghost use Rattle.opt_network.specs.Numbering.{IsLayoutOf};
 ghost use Rattle.opt_rows.specs.Gathering.{entries_of};
-ghost use Rattle.opt_rows.specs.Listed.{arrivals_at};
+ghost use Rattle.opt_rows.specs.Listed.{arrivals_at, IsNetworkOf};
 ghost use Rattle.opt_rows.specs.Systems.{row_over};
 
 use crate::arrivals::add_arrivals;
 use crate::counts::{commodity_count, month_count, place_count};
-use crate::flows::{Arrival, arrivals_at};
+use crate::flows::{Network, Way};
 use crate::spot::Spot;
 use crate::term_buffer::{TermBuffer, push_at_most};
 use opt_base::OutOfMemory;
@@ -21,10 +21,10 @@ use opt_tables::Tables;
 use std::alloc::Global;
 
 /// A place with a throughput, which is in kilograms a month, and the arcs that lead to it.
-#[derive(Debug, Drop)]
-struct Intake {
+#[derive(Clone, Copy)]
+struct Intake<'a> {
     place: u32,
-    arrivals: Vec<Arrival>,
+    arrivals: &'a [Way],
     throughput: i64,
 }
 
@@ -33,21 +33,21 @@ fn add_all_arrivals(
     terms: &mut TermBuffer,
     tables: &Tables,
     layout: &Layout,
-    intake: &Intake,
+    intake: &Intake<'_>,
     month: u32,
 ) -> Result<(), OutOfMemory>
-    requires { intake.now.arrivals.items ≡ arrivals_at tables.now intake.now.place }
+    requires layout { IsLayoutOf tables.now layout.now }
+    requires arrivals { intake.now.arrivals.now ≡ arrivals_at tables.now intake.now.place }
     ensures { OnOk result (terms.new ≡ terms.old ++ entries_of layout.now.quantities
         (over tables.now.commodities λ c _. arrived_terms tables.now intake.now.place c month)) }
 {
-    let arrivals = intake.arrivals.as_slice();
     for commodity in 0..commodity_count(tables) {
         let spot = Spot {
             place: intake.place,
             commodity,
             month,
         };
-        add_arrivals(terms, layout, arrivals, spot)?;
+        add_arrivals(terms, layout, intake.arrivals, spot)?;
     }
     Ok(())
 }
@@ -58,11 +58,11 @@ fn add_row(
     alloc: Global,
     tables: &Tables,
     layout: &Layout,
-    intake: &Intake,
+    intake: &Intake<'_>,
     month: u32,
 ) -> Result<(), OutOfMemory>
     requires layout { IsLayoutOf tables.now layout.now }
-    requires arrivals { intake.now.arrivals.items ≡ arrivals_at tables.now intake.now.place }
+    requires arrivals { intake.now.arrivals.now ≡ arrivals_at tables.now intake.now.place }
     requires throughput { pos 0 ≤ℤ intake.now.throughput }
     ensures { OnOk result (rows.new ≡ rows.old ++ map (row_over layout.now.quantities)
         (throughput_row tables.now intake.now.place (Some intake.now.throughput) month)) }
@@ -80,10 +80,10 @@ fn add_months(
     alloc: Global,
     tables: &Tables,
     layout: &Layout,
-    intake: &Intake,
+    intake: &Intake<'_>,
 ) -> Result<(), OutOfMemory>
     requires layout { IsLayoutOf tables.now layout.now }
-    requires arrivals { intake.now.arrivals.items ≡ arrivals_at tables.now intake.now.place }
+    requires arrivals { intake.now.arrivals.now ≡ arrivals_at tables.now intake.now.place }
     requires throughput { pos 0 ≤ℤ intake.now.throughput }
     ensures { OnOk result (rows.new ≡ rows.old ++ map (row_over layout.now.quantities)
         (over_months tables.now λ m.
@@ -101,18 +101,20 @@ fn add_limited(
     alloc: Global,
     tables: &Tables,
     layout: &Layout,
+    network: &Network,
     place: u32,
     throughput: &i64,
 ) -> Result<(), OutOfMemory>
-    requires model { IsModel tables.now }
     requires layout { IsLayoutOf tables.now layout.now }
+    requires network { IsNetworkOf tables.now network.now }
+    requires place { place < length tables.now.places }
     requires throughput { pos 0 ≤ℤ throughput.now }
     ensures { OnOk result (rows.new ≡ rows.old ++ map (row_over layout.now.quantities)
         (over_months tables.now λ m. throughput_row tables.now place (Some throughput.now) m)) }
 {
     let intake = Intake {
         place,
-        arrivals: arrivals_at(alloc, tables, place)?,
+        arrivals: network.arrivals(place),
         throughput: *throughput,
     };
     add_months(rows, alloc, tables, layout, &intake)?;
@@ -125,18 +127,20 @@ fn add_place(
     alloc: Global,
     tables: &Tables,
     layout: &Layout,
+    network: &Network,
     number: u32,
     place: &Place,
 ) -> Result<(), OutOfMemory>
-    requires model { IsModel tables.now }
     requires layout { IsLayoutOf tables.now layout.now }
+    requires network { IsNetworkOf tables.now network.now }
+    requires place { number < length tables.now.places }
     requires throughput { IfSome place.now.throughput IsKilograms }
     ensures { OnOk result (rows.new ≡ rows.old ++ map (row_over layout.now.quantities)
         (over_months tables.now λ m. throughput_row tables.now number place.now.throughput m)) }
 {
     match place.throughput {
         Some(throughput) => {
-            add_limited(rows, alloc, tables, layout, number, &throughput)?;
+            add_limited(rows, alloc, tables, layout, network, number, &throughput)?;
             Ok(())
         }
         None => Ok(()),
@@ -149,8 +153,10 @@ pub fn add_throughput_rows(
     alloc: Global,
     tables: &Tables,
     layout: &Layout,
+    network: &Network,
 ) -> Result<(), OutOfMemory>
-    requires { IsLayoutOf tables.now layout.now }
+    requires layout { IsLayoutOf tables.now layout.now }
+    requires network { IsNetworkOf tables.now network.now }
     ensures { OnOk result (rows.new
         ≡ rows.old ++ map (row_over layout.now.quantities) (throughput_rows tables.now)) }
 {
@@ -158,7 +164,7 @@ pub fn add_throughput_rows(
     let places = tables.places();
     for number in 0..place_count(tables) {
         let place = &places[number as usize];
-        add_place(rows, alloc, tables, layout, number, place)?;
+        add_place(rows, alloc, tables, layout, network, number, place)?;
     }
     Ok(())
 }

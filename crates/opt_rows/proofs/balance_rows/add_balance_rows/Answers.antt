@@ -9,3 +9,6 @@ loop-place-preserved c =
     let t = c.args.tables.now in
     let within : c.loop-place.place < length t.places = omega (arith, c.loop-place-test.true, c.place_count-place-end.ensures) in
     number_rows c.args.layout.now.quantities _ _ _ (λ p. over t.commodities λ n _. over_months t (balance_row t p n)) t.places _ within c.loop-place.invariant c.in_ok-add_place.ensures
+
+pub add_place-requires-clause-place : goal.add_place-requires-clause-place
+add_place-requires-clause-place c = omega (arith, c.loop-place-test.true, c.place_count-place-end.ensures)

@@ -16,3 +16,6 @@ add_place-requires-clause-throughput c =
     let within : c.loop-number.number < length c.args.tables.now.places = omega (arith, c.loop-number-test.true, c.place_count-number-end.ensures) in
     let is : c.index-places-number.result ≡ get_or c.args.tables.now.places c.loop-number.number c.index-places-number.result = rw c.places-places.ensures at c.index-places-number.is in
     (place_facts c.args.tables.now c.settings-settings.ensures.model c.loop-number.number c.index-places-number.result within is).throughput
+
+pub add_place-requires-clause-place : goal.add_place-requires-clause-place
+add_place-requires-clause-place c = omega (arith, c.loop-number-test.true, c.place_count-number-end.ensures)
