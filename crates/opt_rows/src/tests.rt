@@ -1,5 +1,4 @@
 mod names;
-mod systems;
 
 use opt_base::{OutOfMemory, SureShelf};
 use opt_tables::{Tables, fetch, read_model};
