@@ -1,9 +1,13 @@
 mod countries;
 mod filling;
 mod folders;
+mod judging;
+mod later_formats;
+mod limits;
 mod line;
+mod plans;
 
-use opt_base::{ModelFault, OutOfMemory, SureShelf};
+use opt_base::{Kind, ModelFault, OutOfMemory, Refusal, SureShelf};
 use opt_network::Layout;
 use opt_rows::build;
 use opt_system::System;
@@ -22,8 +26,8 @@ fn hold(shelf: &mut SureShelf, held: &[Held<'_>]) -> Result<(), OutOfMemory> {
     Ok(())
 }
 
-/// The tables of the files in the folder `d`.
-fn read_from(alloc: Global, shelf: &mut SureShelf) -> Result<Tables, Fail> {
+/// The tables of the files on a shelf.
+fn tables_on(alloc: Global, shelf: &mut SureShelf) -> Result<Tables, Fail> {
     let files = fetch(alloc, shelf, "d")?;
     Ok(read_model(alloc, &files)?)
 }
@@ -33,13 +37,22 @@ fn tables_of(alloc: Global, held: &[Held<'_>], more: &[Held<'_>]) -> Result<Tabl
     let mut shelf = SureShelf::new(alloc);
     hold(&mut shelf, held)?;
     hold(&mut shelf, more)?;
-    read_from(alloc, &mut shelf)
+    tables_on(alloc, &mut shelf)
 }
 
 /// The system of a model.
 fn system_of(alloc: Global, tables: &Tables) -> Result<System, ModelFault> {
     let layout = Layout::new(alloc, tables)?;
     build(alloc, tables, &layout)
+}
+
+/// What comes of a model: how many quantities, rows and terms its system has, or the column of a refusal and the count
+/// that it names.
+#[derive(Clone, Copy, Debug, PartialEq, Eq)]
+enum Outcome {
+    System(u32, u32, u64),
+    TooMany(u8, u64),
+    Nothing,
 }
 
 /// How many terms the rows of a system have together.
@@ -49,4 +62,25 @@ fn term_count(system: &System) -> u64 {
         count = count.saturating_add(system.terms(i).len() as u64);
     }
     count
+}
+
+fn refused(refusal: Refusal) -> Outcome {
+    match refusal.kind {
+        Kind::TooMany(count) => Outcome::TooMany(refusal.column, count),
+        _ => Outcome::Nothing,
+    }
+}
+
+fn made_of(built: Result<System, ModelFault>) -> Outcome {
+    match built {
+        Ok(system) => Outcome::System(system.quantities(), system.rows(), term_count(&system)),
+        Err(ModelFault::Refused(refusal)) => refused(refusal),
+        Err(ModelFault::OutOfMemory) => Outcome::Nothing,
+    }
+}
+
+/// What is made of the files on a shelf.
+fn made_on(alloc: Global, shelf: &mut SureShelf) -> Result<Outcome, Fail> {
+    let tables = tables_on(alloc, shelf)?;
+    Ok(made_of(system_of(alloc, &tables)))
 }

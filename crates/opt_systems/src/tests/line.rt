@@ -1,4 +1,4 @@
-use super::{Held, hold, read_from, system_of};
+use super::{Held, hold, system_of, tables_on};
 use opt_base::SureShelf;
 use opt_model::Goal;
 use opt_network::Layout;
@@ -9,7 +9,7 @@ use std::alloc::Global;
 use std::test::Fail;
 
 /// Rice that is bought at S, moved to P and eaten there in one month.
-const LINE: [Held<'static>; 8] = [
+pub const LINE: [Held<'static>; 8] = [
     Held(
         "d/settings.toml",
         b"format = 1\nmonths = 1\ndays = [30]\ngoal = \"cost\"\ngap = 0\nnodes = 1000\n",
@@ -47,7 +47,7 @@ pub fn line_with(alloc: Global, changes: &[Held<'_>], more: &[Held<'_>]) -> Resu
     hold(&mut shelf, &LINE)?;
     hold(&mut shelf, changes)?;
     hold(&mut shelf, more)?;
-    read_from(alloc, &mut shelf)
+    tables_on(alloc, &mut shelf)
 }
 
 /// The system of the line.
