@@ -1,0 +1,4 @@
+pub mod Models
+pub mod Questions
+pub mod Outcomes
+pub mod Problems
