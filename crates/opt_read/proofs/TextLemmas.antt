@@ -51,12 +51,18 @@ back-text field u = IsUtf8-take field (length field - suffix_len is_blank field)
 pub without_blanks-text : (field : List ℕ) → IsUtf8 field → IsUtf8 (without_blanks field)
 without_blanks-text field u = back-text (without_front field) (front-text field u)
 
--- a stripped field of a record of text is text, also where there is none
-pub field-text : (fields : List (List ℕ)) (column : ℕ) → AllText fields → IsUtf8 (slice_index_or (map without_blanks fields) column [])
+-- what holds of the empty field and of each stripped field of text, holds of a stripped field of a record of text, also where there
+-- is none
+pub field-holds : (P : List ℕ → Type 0) → P [] → ((field : List ℕ) → IsUtf8 field → P (without_blanks field))
+    → (fields : List (List ℕ)) (column : ℕ) → AllText fields → P (slice_index_or (map without_blanks fields) column [])
 unfolding AllText
-field-text [] column t = IsUtf8-nil
-field-text (f ∷ fields) zero t = without_blanks-text f t.0
-field-text (f ∷ fields) (suc column) t = field-text fields column t.1
+field-holds P none one [] column t = none
+field-holds P none one (f ∷ fields) zero t = one f t.0
+field-holds P none one (f ∷ fields) (suc column) t = field-holds P none one fields column t.1
+
+-- such a field is text
+pub field-text : (fields : List (List ℕ)) (column : ℕ) → AllText fields → IsUtf8 (slice_index_or (map without_blanks fields) column [])
+field-text = field-holds IsUtf8 IsUtf8-nil without_blanks-text
 
 AllText-append : (fields : List (List ℕ)) (field : List ℕ) → AllText fields → IsUtf8 field → AllText (fields ++ field ∷ [])
 unfolding AllText
