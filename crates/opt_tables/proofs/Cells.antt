@@ -1,20 +1,40 @@
 -- What is known of a cell that is read.
-use Rattle.std.proofs.Common.{◌≡◌, ◌≤◌, ℕ, ◌+◌, ◌-◌, ◌<◌, Bool, true, false, cond, List, [], length, get_or, nat_le, Option, Some, None, Result, Ok, Err, refl, sym, ap, ◌∙◌, subst, arith, ℤ, pos, ◌≤ℤ◌, eq-eqb}
+use Rattle.std.proofs.Common.{◌≡◌, ◌≤◌, ℕ, zero, suc, ◌+◌, ◌-◌, ◌<◌, Bool, true, false, cond, List, [], length, get_or, nat_lt, nat_le, IsUtf8, Option, Some, None, Result, Ok, Err, refl, sym, ap, ◌∙◌, subst, arith, ℤ, pos, ◌≤ℤ◌, eq-eqb}
 use Rattle.std.specs.Prelude.{◌&&◌, ◌==◌, position, bytes_eq, IfSome}
 use Rattle.std.specs.Option.{ok_or, option_map}
 use Rattle.std.specs.Str.Parse.{digits_value}
-use Rattle.std.proofs.lemmas.Bool.{and_parts, and_from, leb-true, cond-true, lt-ltb}
+use Rattle.std.proofs.lemmas.Bool.{and_parts, and_from, both_ways, leb-true, ltb-false, cond-true, lt-ltb}
 use Rattle.std.proofs.lemmas.Int.{ints}
 use Rattle.std.proofs.lemmas.List.Quantifiers.{position-Some}
 use Rattle.std.proofs.lemmas.Slice.Eq.{bytes_eq-Decides}
-use Rattle.opt_base.specs.declared.refusal.Kind.TheVariants.{BadNumber, OutOfRange, UnknownName}
+use Rattle.opt_base.specs.declared.refusal.Kind.TheVariants.{EmptyName, NameTooLong, BadNumber, OutOfRange, UnknownName}
 use Rattle.opt_base.specs.declared.refusal.Refusal.{Refusal}
 use Rattle.opt_base.specs.Answers.{◌>>=◌}
-use Rattle.opt_base.proofs.Made.{bind_ok, when_ok}
-use Rattle.opt_read.specs.Grid.{record_at}
+use Rattle.opt_base.proofs.Made.{bind_ok, when_ok, unless_ok}
+use Rattle.opt_read.specs.Grid.{record_at, without_blanks}
 use Rattle.opt_tables.specs.Keys.{Known, Name, Names, NameInMonth, NamesInMonth, are_same}
-use Rattle.opt_tables.specs.Records.{Record, refused_at, text_in, is_number, number_in, optional_number_in, reference_in, optional_reference_in}
-use Rattle.opt_tables.specs.Facts.{IsFrom}
+use Rattle.opt_tables.specs.Records.{Record, refused_at, text_in, optional_name_in, name_in, is_number, number_in, optional_number_in, reference_in, optional_reference_in}
+use Rattle.opt_tables.specs.Facts.{IsFrom, IsCleanName}
+
+-- text without a space or a tab at its ends
+pub record IsCleanText (field : List ℕ) : Type 0 where
+  pub text : IsUtf8 field
+  pub stripped : without_blanks field ≡ field
+
+-- what is not 0 is at least 1
+pub at_least_one : (n : ℕ) → (n == 0) ≡ false → 1 ≤ n
+at_least_one zero none = absurd (both_ways (zero == 0) none refl)
+at_least_one (suc n) none = omega arith
+
+-- where the text of a column is clean, a name that is read there is too
+pub clean_name : {L : Type 0} (row : Record) (column : ℕ) (more : List ℕ → Result L Refusal) (line : L) → IsCleanText (text_in row column)
+    → (name_in row column >>= more) ≡ Ok line → IsCleanName (text_in row column)
+clean_name row column more line clean e =
+    let size : ℕ = length (text_in row column) in
+    let name = bind_ok (name_in row column) more line e in
+    let some = unless_ok (size == 0) (optional_name_in row column) (refused_at row column EmptyName) name.0 name.1 in
+    let short = unless_ok (nat_lt 64 size) (Ok (text_in row column)) (refused_at row column NameTooLong) name.0 some.1 in
+    record { text = clean.text; stripped = clean.stripped; some = at_least_one size some.0; short = ltb-false 64 size short.0 }
 
 -- a number from low to high
 pub record IsBetween (low high n : ℕ) : Type 0 where

@@ -1,5 +1,5 @@
 -- What is known of baskets and needs that are read.
-use Rattle.std.proofs.Common.{◌≡◌, ◌≤◌, ℕ, zero, suc, ◌+◌, ◌<◌, Bool, true, false, cond, List, [], ◌∷◌, length, get_or, Result, Ok, Err, refl, sym, ap, ◌∙◌, subst, arith, pos}
+use Rattle.std.proofs.Common.{◌≡◌, ◌≤◌, ℕ, ◌+◌, ◌<◌, Bool, true, false, cond, List, [], ◌∷◌, length, get_or, Result, Ok, Err, refl, sym, ap, ◌∙◌, subst, arith, pos}
 use Rattle.std.specs.Prelude.{All, count_by, bytes_eq, ◌&&◌, ◌==◌, nat_lt, if◌then◌else◌}
 use Rattle.std.specs.List.{enumerate_from}
 use Rattle.std.proofs.lemmas.Bool.{and_parts, ltb-false, both_ways}
@@ -20,14 +20,14 @@ use Rattle.opt_tables.specs.Records.{Record, text_in, name_in, number_in, refere
 use Rattle.opt_tables.specs.Lines.{Lines, lines_in, name_key}
 use Rattle.opt_tables.specs.Diet.{need_in, no_need, nutrient_line_of}
 use Rattle.opt_tables.specs.Demand.{basket_line_of, with_few, basket_lines_in, need_line_of, need_key, need_with, needs_from, basket_of, need_of}
-use Rattle.opt_tables.specs.Facts.{IsFrom, IsNeed, IsNeedOf}
+use Rattle.opt_tables.specs.Facts.{IsFrom, IsCleanName, IsNeed, IsNeedOf}
 use Rattle.opt_tables.specs.declared.baskets.BasketLine.{BasketLine}
 use Rattle.opt_tables.specs.declared.needs.NeedLine.{NeedLine}
 use Rattle.opt_tables.specs.declared.nutrients.NutrientLine.{NutrientLine}
 use Rattle.opt_tables.specs.Diet.{Diet}
 use Rattle.opt_tables.specs.Demand.{Demand}
-use Rattle.opt_tables.proofs.Cells.{from_between, number_from, IsReference, reference_is}
-use Rattle.opt_tables.proofs.TableFacts.{AreFew, HasLines, lines_are, IsMade, IsTable, one_known}
+use Rattle.opt_tables.proofs.Cells.{at_least_one, clean_name, from_between, number_from, IsReference, reference_is}
+use Rattle.opt_tables.proofs.TableFacts.{HasLines, lines_are, IsMade, IsTable, one_known}
 use Rattle.opt_tables.proofs.DietFacts.{same_names, alike}
 
 -- the numbers of a need's line are in their ranges
@@ -88,6 +88,11 @@ basket_known demand k key r of =
     let same : record { basket = text_in of.row 1 } ≡ r = cc (of.made) in
     subst (λ (basket : Basket). key ≡ Name basket.basket) same of.known
 
+pub basket_name : (demand : Demand) (k : ℕ) (key : Known) (r : Basket) → BasketMade demand k key r → IsCleanName r.basket
+basket_name demand k key r of =
+    let same : record { basket = text_in of.row 1 } ≡ r = cc (of.made) in
+    subst (λ (basket : Basket). IsCleanName basket.basket) same (clean_name of.row 1 _ of.line (of.clean 1) of.read)
+
 -- a format with baskets of its own has 1 to 16 of them
 pub record IsFew (all : Lines BasketLine) : Type 0 where
   pub some : 1 ≤ length all.rows
@@ -99,10 +104,6 @@ few_is made all e =
     let few = unless_ok (nat_lt BASKET_LIMIT (length made.rows)) (Ok made) (refusal_of_file Baskets (TooMany (length made.rows))) all some.1 in
     let same : made ≡ all = cc (few.1) in
     subst IsFew same (record { some = at_least_one (length made.rows) some.0; few = ltb-false BASKET_LIMIT (length made.rows) few.0 })
-  where
-    at_least_one : (n : ℕ) → (n == 0) ≡ false → 1 ≤ n
-    at_least_one zero f = absurd (both_ways (zero == 0) f refl)
-    at_least_one (suc n) f = omega arith
 
 -- the lines of baskets, and how many there are in a format with baskets of its own
 pub record AreBaskets (settings : Settings) (grid : Result (List (List (List ℕ))) Refusal) (all : Lines BasketLine) : Type 0 where

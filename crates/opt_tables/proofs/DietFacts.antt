@@ -18,13 +18,13 @@ use Rattle.opt_tables.specs.Keys.{Known, Name, Names}
 use Rattle.opt_tables.specs.Records.{Record, refused_at, text_in, name_in, optional_name_in, number_in, reference_in, optional_reference_in}
 use Rattle.opt_tables.specs.Lines.{name_key}
 use Rattle.opt_tables.specs.Diet.{commodity_line_of, group_line_of, nutrient_line_of, content_line_of, content_key, commodity_of, group_of, nutrient_of, content_of}
-use Rattle.opt_tables.specs.Facts.{IsFrom, IsCommodity, IsGroup}
+use Rattle.opt_tables.specs.Facts.{IsFrom, IsCleanName, IsCommodity, IsGroup}
 use Rattle.opt_tables.specs.declared.commodities.CommodityLine.{CommodityLine}
 use Rattle.opt_tables.specs.declared.groups.GroupLine.{GroupLine}
 use Rattle.opt_tables.specs.declared.nutrients.NutrientLine.{NutrientLine}
 use Rattle.opt_tables.specs.declared.contents.ContentLine.{ContentLine}
 use Rattle.opt_tables.specs.Diet.{Diet}
-use Rattle.opt_tables.proofs.Cells.{IsBetween, number_between, from_between, number_from, IsReference, reference_is, optional_reference_is, one_reference}
+use Rattle.opt_tables.proofs.Cells.{clean_name, IsBetween, number_between, from_between, number_from, IsReference, reference_is, optional_reference_is, one_reference}
 use Rattle.opt_tables.proofs.TableFacts.{IsMade, IsTable, one_known}
 
 -- a multiple of the step lies from the least to the greatest ration
@@ -62,6 +62,7 @@ CommodityMade diet k key r = IsMade commodity_line_of name_key Commodities (comm
 
 pub record CommodityFacts (diet : Diet) (key : Known) (r : Commodity) : Type 0 where
   pub known : key ≡ Name r.commodity
+  pub name : IsCleanName r.commodity
   pub group : IfSome r.group (λ group. group < length diet.groups.keys)
   pub numbers : IsCommodity r
 
@@ -75,6 +76,7 @@ commodity_facts diet k key r of =
     let same : made ≡ r = cc (group.2) in
     subst (CommodityFacts diet key) same (record {
       known = of.known;
+      name = clean_name row 1 _ line (of.clean 1) of.read;
       group = optional_reference_is row 2 diet.groups.keys group.0 group.1;
       numbers = record {
         min_g = from_between 0 2000 line.min_g is.min_g;
@@ -90,6 +92,7 @@ GroupMade diet k key r = IsMade group_line_of name_key Groups group_of diet.grou
 
 pub record GroupFacts (key : Known) (r : Group) : Type 0 where
   pub known : key ≡ Name r.group
+  pub name : IsCleanName r.group
   pub numbers : IsGroup r
 
 pub group_facts : (diet : Diet) (k : ℕ) (key : Known) (r : Group) → GroupMade diet k key r → GroupFacts key r
@@ -102,6 +105,7 @@ group_facts diet k key r of =
     let same : record { group = text_in row 1; min_g = pos of.line.min_g; max_g = pos of.line.max_g } ≡ r = cc (of.made) in
     subst (GroupFacts key) same (record {
       known = of.known;
+      name = clean_name row 1 _ of.line (of.clean 1) of.read;
       numbers = subst (λ (line : GroupLine). IsGroup (record { group = text_in row 1; min_g = pos line.min_g; max_g = pos line.max_g })) lined
           (record { min_g = number_from row 2 0 1000000 min.0 min.1; max_g = number_from row 3 0 1000000 max.0 max.1 });
     })
@@ -114,6 +118,11 @@ pub nutrient_known : (settings : Settings) (diet : Diet) (k : ℕ) (key : Known)
 nutrient_known settings diet k key r of =
     let same : record { nutrient = text_in of.row 1 } ≡ r = cc (of.made) in
     subst (λ (nutrient : Nutrient). key ≡ Name nutrient.nutrient) same of.known
+
+pub nutrient_name : (settings : Settings) (diet : Diet) (k : ℕ) (key : Known) (r : Nutrient) → NutrientMade settings diet k key r → IsCleanName r.nutrient
+nutrient_name settings diet k key r of =
+    let same : record { nutrient = text_in of.row 1 } ≡ r = cc (of.made) in
+    subst (λ (nutrient : Nutrient). IsCleanName nutrient.nutrient) same (clean_name of.row 1 _ of.line (of.clean 1) of.read)
 
 -- a content that was made
 abbrev pub ContentMade : Diet → ℕ → Known → Content → Type 0

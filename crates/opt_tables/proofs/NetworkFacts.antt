@@ -19,7 +19,7 @@ use Rattle.opt_tables.specs.Keys.{Known, Name, Names, NameInMonth, NamesInMonth}
 use Rattle.opt_tables.specs.Records.{Record, refused_at, text_in, name_in, number_in, optional_number_in, kind_in, reference_in}
 use Rattle.opt_tables.specs.Lines.{Lines, name_key}
 use Rattle.opt_tables.specs.Network.{place_line_of, lot_in, offer_line_of, arc_line_of, basket_name_in, persons_line_of, persons_key, stock_line_of, stock_key, are_same_kind, has_kind, place_of_kind_in, end_in, place_of, offer_of, arc_of, basket_in, persons_of, stock_of}
-use Rattle.opt_tables.specs.Facts.{IsFrom, IsKilograms, IsPrice, IsPlace, HasNoLot}
+use Rattle.opt_tables.specs.Facts.{IsFrom, IsCleanName, IsKilograms, IsPrice, IsPlace, HasNoLot}
 use Rattle.opt_tables.specs.declared.places.PlaceLine.{PlaceLine}
 use Rattle.opt_tables.specs.declared.offers.OfferLine.{OfferLine}
 use Rattle.opt_tables.specs.declared.offers.Lot.{Lot}
@@ -30,7 +30,7 @@ use Rattle.opt_tables.specs.declared.stock.StockLine.{StockLine}
 use Rattle.opt_tables.specs.Diet.{Diet}
 use Rattle.opt_tables.specs.Network.{Network}
 use Rattle.opt_tables.specs.Demand.{Demand}
-use Rattle.opt_tables.proofs.Cells.{IsBetween, number_between, from_between, number_from, optional_number_from, IsReference, reference_is, one_reference}
+use Rattle.opt_tables.proofs.Cells.{clean_name, IsBetween, number_between, from_between, number_from, optional_number_from, IsReference, reference_is, one_reference}
 use Rattle.opt_tables.proofs.TableFacts.{IsMade, IsTable, one_known}
 use Rattle.opt_tables.proofs.DietFacts.{same_names, alike}
 
@@ -64,6 +64,7 @@ place_line_is row line e =
 
 pub record PlaceFacts (network : Network) (k : ℕ) (key : Known) (r : Place) : Type 0 where
   pub known : key ≡ Name r.place
+  pub name : IsCleanName r.place
   pub kind : option_map (λ (line : PlaceLine). line.kind) (slice_get network.places.lines k) ≡ Some r.kind
   pub numbers : IsPlace r
 
@@ -75,6 +76,7 @@ place_facts network k key r of =
     let same : made ≡ r = cc (of.made) in
     subst (PlaceFacts network k key) same (record {
       known = of.known;
+      name = clean_name of.row 1 _ line (of.clean 1) of.read;
       kind = ap (option_map (λ (other : PlaceLine). other.kind)) of.there;
       numbers = record { storage = is.storage; throughput = is.throughput; handling = is.handling; storage_cost = is.storage_cost };
     })
@@ -193,6 +195,7 @@ offer_line_is settings row line e =
 
 pub record OfferFacts (settings : Settings) (diet : Diet) (network : Network) (key : Known) (r : Offer) : Type 0 where
   pub known : key ≡ Name r.offer
+  pub name : IsCleanName r.offer
   pub place : r.place < length network.places.keys
   pub kind : line_kind network r.place ≡ Some Supplier
   pub commodity : r.commodity < length diet.commodities.keys
@@ -216,6 +219,7 @@ offer_facts settings diet network k key r of =
     let stands : IsPlaceOf network (text_in row 2) Supplier place.0 = place_of_kind_is network Supplier row 2 place.0 place.1 in
     subst (OfferFacts settings diet network key) same (record {
       known = of.known;
+      name = clean_name row 1 _ line (of.clean 1) of.read;
       place = stands.is.there;
       kind = stands.of_kind;
       commodity = (reference_is row 3 diet.commodities.keys commodity.0 commodity.1).there;
@@ -279,6 +283,7 @@ end_is network row column start place e =
 
 pub record ArcFacts (network : Network) (key : Known) (r : Arc) : Type 0 where
   pub known : key ≡ Name r.arc
+  pub name : IsCleanName r.arc
   pub from_place : r.from_place < length network.places.keys
   pub to_place : r.to_place < length network.places.keys
   pub kind : line_kind network r.to_place ≢ Some Supplier
@@ -299,6 +304,7 @@ arc_facts network k key r of =
     let ends : IsEnd network start.0 end.0 = end_is network row 3 start.0 end.0 end.1 in
     subst (ArcFacts network key) same (record {
       known = of.known;
+      name = clean_name row 1 _ line (of.clean 1) of.read;
       from_place = (reference_is row 2 network.places.keys start.0 start.1).there;
       to_place = ends.there;
       kind = ends.kind;

@@ -1,8 +1,10 @@
 -- What holds of every model that is read.
-use Rattle.std.proofs.Common.{◌≡◌, ◌≢◌, ◌≤◌, ℕ, suc, ◌<◌, ◌^◌, true, false, List, [], ◌∷◌, length, get_or, Option, Some, None, option_map, Result, Ok, refl, sym, ap, ◌∙◌, subst, arith, inl, inr, lit≤}
+use Rattle.std.proofs.Common.{◌≡◌, ◌≢◌, ◌≤◌, ℕ, suc, ◌<◌, ◌^◌, true, false, List, [], ◌∷◌, length, get_or, Option, Some, None, option_map, codes, Result, Ok, refl, sym, ap, ◌∙◌, subst, arith, inl, inr, lit≤}
 use Rattle.std.specs.Prelude.{All, count_by, bytes_eq, IfSome, ◌&&◌, ◌==◌, slice_get}
 use Rattle.std.proofs.lemmas.Bool.{and_parts, eqb-true, cases_Bool}
+use Rattle.std.proofs.lemmas.List.Elements.{All-nil, All-cons}
 use Rattle.std.proofs.lemmas.Option.{slice_get_cases}
+use lib.Utf8.{encode}
 use Rattle.opt_base.specs.declared.refusal.File.{File}
 use Rattle.opt_base.specs.declared.refusal.File.TheVariants.{Settings, Commodities, Groups, Nutrients, Contents, Places, Offers, Arcs, Persons, Stock, Baskets, Needs}
 use Rattle.opt_base.specs.Answers.{◌>>=◌}
@@ -10,6 +12,12 @@ use Rattle.opt_base.proofs.Made.{bind_ok}
 use Rattle.opt_model.specs.Settings.{Settings as SettingsOf, has_baskets, has_lots}
 use Rattle.opt_model.specs.Tables.{Tables}
 use Rattle.opt_model.specs.declared.limits.TheConstants.{BASKET_LIMIT}
+use Rattle.opt_model.specs.declared.records.Basket.{Basket}
+use Rattle.opt_model.specs.declared.records.Commodity.{Commodity}
+use Rattle.opt_model.specs.declared.records.Group.{Group}
+use Rattle.opt_model.specs.declared.records.Nutrient.{Nutrient}
+use Rattle.opt_model.specs.declared.records.Offer.{Offer}
+use Rattle.opt_model.specs.declared.records.Arc.{Arc}
 use Rattle.opt_model.specs.declared.records.Need.{Need}
 use Rattle.opt_model.specs.declared.records.PlaceKind.{PlaceKind}
 use Rattle.opt_model.specs.declared.records.Place.{Place}
@@ -24,23 +32,24 @@ use Rattle.opt_tables.specs.Diet.{DietTables, commodity_line_of, group_line_of, 
 use Rattle.opt_tables.specs.Network.{NetworkTables, place_line_of, offer_line_of, arc_line_of, persons_line_of, persons_key, stock_line_of, stock_key, network_of, place_of, offer_of, arc_of, persons_of, stock_of}
 use Rattle.opt_tables.specs.Demand.{DemandTables, basket_line_of, need_line_of, need_key, demand_of, only_basket, needs_from, only_demand, basket_of, need_of, demand_records_of}
 use Rattle.opt_tables.specs.Model.{diet_records_of, network_records_of, tables_with, linked_of, tables_in, tables_from, tables_of}
-use Rattle.opt_tables.specs.Facts.{IsCommodity, IsGrouped, IsGroup, IsContent, IsPlace, IsOffer, IsArc, IsPersons, IsStock, IsNeed, IsNeedOf, HasNoLot, IsModel}
+use Rattle.opt_tables.specs.Facts.{IsCleanName, IsCommodity, IsGrouped, IsGroup, IsContent, IsPlace, IsOffer, IsArc, IsPersons, IsStock, IsNeed, IsNeedOf, HasNoLot, IsModel}
 use Rattle.opt_tables.specs.Diet.{Diet}
 use Rattle.opt_tables.specs.Network.{Network}
 use Rattle.opt_tables.specs.Demand.{Demand}
 use Rattle.opt_tables.proofs.Counts.{one_passes}
 use Rattle.opt_tables.proofs.Sizes.{checked_files_small}
-use Rattle.opt_tables.proofs.TableFacts.{AreFew, IsTable, all_made, names_once, ok_same}
-use Rattle.opt_tables.proofs.DietFacts.{commodity_facts, group_facts, nutrient_known, content_facts, content_once}
+use Rattle.opt_tables.proofs.TableFacts.{AreClean, IsTable, all_made, names_once, ok_same}
+use Rattle.opt_tables.proofs.DietFacts.{commodity_facts, group_facts, nutrient_known, nutrient_name, content_facts, content_once}
 use Rattle.opt_tables.proofs.NetworkFacts.{place_facts, line_kind, offer_facts, arc_facts}
 use Rattle.opt_tables.proofs.MonthFacts.{IsBasketOf, persons_facts, persons_once, stock_facts, stock_once}
-use Rattle.opt_tables.proofs.DemandFacts.{basket_known, need_facts, need_once, AreNeeds, needs_are}
-use Rattle.opt_tables.proofs.ReadTables.{few_in, IsDiet, diet_is, IsNetwork, network_is, IsOwnDemand, IsDemand, demand_is}
+use Rattle.opt_tables.proofs.DemandFacts.{basket_known, basket_name, need_facts, need_once, AreNeeds, needs_are}
+use Rattle.opt_tables.proofs.ReadTables.{clean_in, IsDiet, diet_is, IsNetwork, network_is, IsOwnDemand, IsDemand, demand_is}
 
 -- what holds of the demand
 record DemandHolds (settings : SettingsOf) (nutrients : ℕ) (records : DemandTables) : Type 0 where
   some : 1 ≤ length records.baskets
   few : length records.baskets ≤ BASKET_LIMIT
+  names : All (λ (r : Basket). IsCleanName r.basket) records.baskets
   needs : All IsNeed records.needs
   needs_in : All (λ (r : Need). (r.basket < length records.baskets) × (r.nutrient < nutrients)) records.needs
   short : length records.needs ≤ 2 ^ 24
@@ -49,6 +58,11 @@ record DemandHolds (settings : SettingsOf) (nutrients : ℕ) (records : DemandTa
   only : has_baskets settings.format ≡ false → records.baskets ≡ only_basket ∷ []
   a_need_each : has_baskets settings.format ≡ false → length records.needs ≡ nutrients
   in_order : has_baskets settings.format ≡ false → (number : ℕ) (d : Need) → number < length records.needs → IsNeedOf number (get_or records.needs number d)
+
+-- the name of the one basket
+only_name : IsCleanName only_basket.basket
+unfolding encode
+only_name = record { text = (codes "all", (refl, refl)); stripped = refl; some = lit≤ tt; short = lit≤ tt }
 
 -- the needs of one basket are for different nutrients
 ordered_once : (needs : List Need) → ((number : ℕ) (d : Need) → number < length needs → IsNeedOf number (get_or needs number d))
@@ -70,6 +84,7 @@ only_holds settings diet records is none =
     record {
       some = lit≤ tt;
       few = lit≤ tt;
+      names = All-cons (λ (r : Basket). IsCleanName r.basket) only_basket [] only_name (All-nil (λ (r : Basket). IsCleanName r.basket));
       needs = are.each;
       needs_in = λ k d within. let of = are.in_order k d within in (omega (arith, of.basket), omega (arith, of.nutrient, many));
       short = omega (arith, many, is.nutrients.few);
@@ -85,6 +100,7 @@ own_holds : (settings : SettingsOf) (diet : Diet) (demand : Demand) (records : D
 own_holds settings diet demand records demands is own has = record {
   some = omega (arith, own.few.some, own.baskets.rows);
   few = omega (arith, own.few.few, own.baskets.rows);
+  names = all_made basket_line_of name_key Baskets basket_of demand.baskets (λ (r : Basket). IsCleanName r.basket) demands.baskets own.baskets (basket_name demand);
   needs = all_made need_line_of need_key Needs (need_of diet demand) demand.needs IsNeed demands.needs own.needs (λ k key r of. (need_facts diet demand k key r of).numbers);
   needs_in = all_made need_line_of need_key Needs (need_of diet demand) demand.needs (λ (r : Need). (r.basket < length demands.baskets) × (r.nutrient < length records.nutrients)) demands.needs own.needs
       (λ k key r of.
@@ -153,6 +169,15 @@ module _ (settings : SettingsOf) (diet : Diet) (network : Network) (demand : Dem
           persons = of_network.persons.few;
           stock = of_network.stock.few;
           needs = holds.short;
+        };
+        names = record {
+          baskets = holds.names;
+          commodities = all_made commodity_line_of name_key Commodities (commodity_of diet) diet.commodities (λ (r : Commodity). IsCleanName r.commodity) diets.commodities commodities (λ k key r of. (commodity_facts diet k key r of).name);
+          groups = all_made group_line_of name_key Groups group_of diet.groups (λ (r : Group). IsCleanName r.group) diets.groups of_diet.groups (λ k key r of. (group_facts diet k key r of).name);
+          nutrients = all_made (nutrient_line_of settings) name_key Nutrients nutrient_of diet.nutrients (λ (r : Nutrient). IsCleanName r.nutrient) diets.nutrients of_diet.nutrients (nutrient_name settings diet);
+          offers = all_made (offer_line_of settings) name_key Offers (offer_of diet network) network.offers (λ (r : Offer). IsCleanName r.offer) networks.offers of_network.offers (λ k key r of. (offer_facts settings diet network k key r of).name);
+          arcs = all_made arc_line_of name_key Arcs (arc_of network) network.arcs (λ (r : Arc). IsCleanName r.arc) networks.arcs of_network.arcs (λ k key r of. (arc_facts network k key r of).name);
+          places = all_made place_line_of name_key Places place_of network.places (λ (r : Place). IsCleanName r.place) networks.places places (λ k key r of. (place_facts network k key r of).name);
         };
         commodities = all_made commodity_line_of name_key Commodities (commodity_of diet) diet.commodities IsCommodity diets.commodities commodities (λ k key r of. (commodity_facts diet k key r of).numbers);
         grouped = all_made commodity_line_of name_key Commodities (commodity_of diet) diet.commodities (IsGrouped t) diets.commodities commodities (λ k key r of. within_groups r.group (commodity_facts diet k key r of).group);
@@ -243,7 +268,7 @@ IsModel-read files t e =
     let demands = bind_ok (demand_records_of settings.0 diet.0 demand.0) _ t networks.2 in
     let made : Tables = tables_with settings.0 diets.0 networks.0 demands.0 in
     let same : made ≡ t = ok_same made t demands.2 in
-    let few : (file : File) → AreFew (rows_in files format file) = λ file. few_in files format file (checked_files_small files checked.1 file) in
+    let clean : (file : File) → AreClean (rows_in files format file) = λ file. clean_in files format file (checked_files_small files checked.1 file) in
     subst IsModel same (model_is settings.0 diet.0 network.0 demand.0 diets.0 networks.0 demands.0 (settings-kept (bytes_of files Settings) settings.0 settings.1)
-    (diet_is files settings.0 diet.0 diets.0 few diet.1 diets.1) (network_is files settings.0 diet.0 network.0 demand.0 networks.0 few network.1 networks.1)
-    (demand_is files settings.0 diet.0 demand.0 demands.0 few demand.1 demands.1))
+    (diet_is files settings.0 diet.0 diets.0 clean diet.1 diets.1) (network_is files settings.0 diet.0 network.0 demand.0 networks.0 clean network.1 networks.1)
+    (demand_is files settings.0 diet.0 demand.0 demands.0 clean demand.1 demands.1))

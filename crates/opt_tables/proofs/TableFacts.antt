@@ -1,5 +1,5 @@
 -- What is known of the records of any table that is read: each is made of the fields of one record, and no two have one key.
-use Rattle.std.proofs.Common.{◌≡◌, ◌≤◌, ℕ, ◌+◌, ◌<◌, ◌^◌, Bool, true, false, List, [], ◌∷◌, ◌++◌, length, get_or, Some, Result, Ok, refl, sym, ap, ◌∙◌, subst, arith}
+use Rattle.std.proofs.Common.{◌≡◌, ◌≤◌, ℕ, ◌+◌, ◌-◌, ◌<◌, ◌^◌, Bool, true, false, List, [], ◌∷◌, ◌++◌, length, get_or, Some, Result, Ok, refl, sym, ap, ◌∙◌, subst, arith}
 use Rattle.std.specs.Prelude.{All, count_by, slice_get, bytes_eq}
 use Rattle.std.specs.List.{list_any, AllPairs}
 use Rattle.std.proofs.lemmas.Bool.{both_ways, false_from_ne_true}
@@ -13,9 +13,9 @@ use Rattle.opt_base.specs.declared.refusal.Kind.TheVariants.{Duplicate}
 use Rattle.opt_base.specs.declared.refusal.Refusal.{Refusal}
 use Rattle.opt_base.proofs.Made.{bind_ok, unless_ok, each_keeps, each_adds, Added, Gained}
 use Rattle.opt_tables.specs.Keys.{Known, Name, are_same}
-use Rattle.opt_tables.specs.Records.{Record, row_of, refused_at}
+use Rattle.opt_tables.specs.Records.{Record, row_of, refused_at, text_in}
 use Rattle.opt_tables.specs.Lines.{Lines, no_lines, with_record, lines_of, lines_in, with_linked, records_of}
-use Rattle.opt_tables.proofs.Cells.{record_is, same_keys}
+use Rattle.opt_tables.proofs.Cells.{IsCleanText, record_is, same_keys}
 use Rattle.opt_tables.proofs.Counts.{one_passes}
 
 -- values that are read alike are one
@@ -26,9 +26,14 @@ ok_same x y e = cc
 abbrev pub AreApart : List Known → Type 0
 AreApart keys = AllPairs (λ earlier later. are_same later earlier ≡ false) keys
 
--- a table has at most 2 ^ 24 records
-abbrev pub AreFew : Result (List (List (List ℕ))) Refusal → Type 0
-AreFew grid = (rows : List (List (List ℕ))) → grid ≡ Ok rows → length rows ≤ 2 ^ 24
+-- there are at most 2 ^ 24 records, and their fields are clean
+pub record AreCleanRows (rows : List (List (List ℕ))) : Type 0 where
+  pub few : length rows ≤ 2 ^ 24
+  pub clean : (index place : ℕ) → IsCleanText (get_or (get_or rows index []) place [])
+
+-- the same of a table that may be refused as it stands
+abbrev pub AreClean : Result (List (List (List ℕ))) Refusal → Type 0
+AreClean grid = (rows : List (List (List ℕ))) → grid ≡ Ok rows → AreCleanRows rows
 
 apart_more : (keys : List Known) (key : Known) → list_any (are_same key) keys ≡ false → AreApart keys → AreApart (keys ++ key ∷ [])
 apart_more keys key none apart =
@@ -106,6 +111,7 @@ module _ {L : Type 0} (line_of : Record → Result L Refusal) (key_of : Record �
   pub record IsMade {R : Type 0} (record_of : Record → L → Result R Refusal) (all : Lines L) (k : ℕ) (key : Known) (r : R) : Type 0 where
     pub row : Record
     pub line : L
+    pub clean : (column : ℕ) → IsCleanText (text_in row column)
     pub there : slice_get all.lines k ≡ Some line
     pub read : line_of row ≡ Ok line
     pub known : key ≡ key_of row line
@@ -134,13 +140,13 @@ module _ {L : Type 0} (line_of : Record → Result L Refusal) (key_of : Record �
         let same : made ++ one.0 ∷ [] ≡ more = cc (one.2) in
         record { one = one.0; joined = sym same; at = one.1 }
 
-    pub records_are : (rows : List (List (List ℕ))) (records : List R) → length rows ≤ 2 ^ 24 → HasLines rows all → records_of record_of all ≡ Ok records → IsTable record_of all records
-    records_are rows records few has e =
+    pub records_are : (rows : List (List (List ℕ))) (records : List R) → AreCleanRows rows → HasLines rows all → records_of record_of all ≡ Ok records → IsTable record_of all records
+    records_are rows records are has e =
         let gained : Gained IsRecordOf 1 [] records all.lines = each_adds (with_linked record_of all) (λ made. made) IsRecordOf more_records 1 [] records all.lines e in
         let many : length records ≡ length rows = ap length gained.joined ∙ (gained.long ∙ has.lines) in
         record {
           many = many ∙ sym has.keys;
-          few = omega (arith, many, few);
+          few = omega (arith, many, are.few);
           rows = ap length (sym has.rows_are) ∙ sym many;
           apart = has.apart;
           at = λ k key r within.
@@ -155,6 +161,7 @@ module _ {L : Type 0} (line_of : Record → Result L Refusal) (key_of : Record �
               record {
                 row = numbered (1 + k) (get_or rows k []);
                 line = line;
+                clean = λ column. are.clean k (column - 1);
                 there = slice_get-get_or all.lines k known.line lined;
                 read = read;
                 known = known.is ∙ ap (key_of (numbered (1 + k) (get_or rows k []))) same;
@@ -163,10 +170,10 @@ module _ {L : Type 0} (line_of : Record → Result L Refusal) (key_of : Record �
         }
 
     -- the same of a table that may be refused as it stands
-    pub table_is : (grid : Result (List (List (List ℕ))) Refusal) (records : List R) → AreFew grid → lines_in line_of key_of file grid ≡ Ok all → records_of record_of all ≡ Ok records → IsTable record_of all records
-    table_is grid records few e f =
+    pub table_is : (grid : Result (List (List (List ℕ))) Refusal) (records : List R) → AreClean grid → lines_in line_of key_of file grid ≡ Ok all → records_of record_of all ≡ Ok records → IsTable record_of all records
+    table_is grid records clean e f =
         let rows = bind_ok grid (lines_of line_of key_of file) all e in
-        records_are rows.0 records (few rows.0 rows.1) (lines_are rows.0 all rows.2) f
+        records_are rows.0 records (clean rows.0 rows.1) (lines_are rows.0 all rows.2) f
 
     -- what the making of each record gives, holds of all
     pub all_made : (P : R → Type 0) (records : List R) → IsTable record_of all records → ((k : ℕ) (key : Known) (r : R) → IsMade record_of all k key r → P r) → All P records

@@ -1,6 +1,6 @@
--- What holds of every model that is read: its numbers are in their ranges, its references name records that are there, and no
--- two records of a table have one key.
-use Rattle.std.specs.Prelude.{◌≡◌, ◌≢◌, ℕ, ◌^◌, ◌<◌, ◌≤◌, ◌&&◌, ◌==◌, Bool, false, List, [], ◌∷◌, All, count_by, bytes_eq, length, slice_get, slice_index_or, Option, Some, option_map, IfSome, ℤ, pos, ◌≤ℤ◌}
+-- What holds of every model that is read: its numbers are in their ranges, its names are text of 1 to 64 bytes without a space or a
+-- tab at their ends, its references name records that are there, and no two records of a table have one key.
+use Rattle.std.specs.Prelude.{◌≡◌, ◌≢◌, ℕ, ◌^◌, ◌<◌, ◌≤◌, ◌&&◌, ◌==◌, Bool, false, List, [], ◌∷◌, All, count_by, bytes_eq, IsUtf8, length, slice_get, slice_index_or, Option, Some, option_map, IfSome, ℤ, pos, ◌≤ℤ◌}
 use Rattle.opt_model.specs.Settings.{has_baskets, has_lots}
 use Rattle.opt_model.specs.Tables.{Tables}
 use Rattle.opt_model.specs.Quantities.{least_steps, most_steps}
@@ -16,9 +16,11 @@ use Rattle.opt_model.specs.declared.records.Arc.{Arc}
 use Rattle.opt_model.specs.declared.records.Persons.{Persons}
 use Rattle.opt_model.specs.declared.records.Stock.{Stock}
 use Rattle.opt_model.specs.declared.records.Need.{Need}
+use Rattle.opt_read.specs.Grid.{without_blanks}
 use Rattle.opt_read.specs.Setup.{IsSetup}
 use Rattle.opt_tables.specs.Demand.{only_basket}
 use Rattle.opt_tables.specs.declared.offers.TheConstants.{FEE_LIMIT}
+use Rattle.opt_tables.specs.declared.row.TheConstants.{NAME_LIMIT}
 
 -- a number lies from the first to the second
 pub record IsFrom (low high z : ℤ) : Type 0 where
@@ -131,6 +133,23 @@ pub record IsShort (t : Tables) : Type 0 where
   pub stock : length t.stock ≤ 2 ^ 24
   pub needs : length t.needs ≤ 2 ^ 24
 
+-- a name of 1 to 64 bytes of text, with no space or tab at its ends
+pub record IsCleanName (name : List ℕ) : Type 0 where
+  pub text : IsUtf8 name
+  pub stripped : without_blanks name ≡ name
+  pub some : 1 ≤ length name
+  pub short : length name ≤ NAME_LIMIT
+
+-- the names of all records are such names
+pub record HasCleanNames (t : Tables) : Type 0 where
+  pub baskets : All (λ r. IsCleanName r.basket) t.baskets
+  pub commodities : All (λ r. IsCleanName r.commodity) t.commodities
+  pub groups : All (λ r. IsCleanName r.group) t.groups
+  pub nutrients : All (λ r. IsCleanName r.nutrient) t.nutrients
+  pub offers : All (λ r. IsCleanName r.offer) t.offers
+  pub arcs : All (λ r. IsCleanName r.arc) t.arcs
+  pub places : All (λ r. IsCleanName r.place) t.places
+
 -- at most one record of each table has a key
 pub record HasKeys (t : Tables) : Type 0 where
   pub commodity : (name : List ℕ) → count_by (λ r. bytes_eq r.commodity name) t.commodities ≤ 1
@@ -168,6 +187,7 @@ pub record IsModel (t : Tables) : Type 0 where
   pub some_basket : 1 ≤ length t.baskets
   pub few_baskets : length t.baskets ≤ BASKET_LIMIT
   pub short : IsShort t
+  pub names : HasCleanNames t
   pub commodities : All IsCommodity t.commodities
   pub grouped : All (IsGrouped t) t.commodities
   pub groups : All IsGroup t.groups

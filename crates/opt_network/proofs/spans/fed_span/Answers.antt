@@ -35,3 +35,11 @@ returns-clause-high c =
     let made = rw days at c.most_kilograms.ensures in
     let same : ceil_div (most_grams t c.args.place c.args.commodity c.args.month) (pos 1000) ≡ ceil_div grams (pos 1000) = ap (λ z. ceil_div z (pos 1000)) all in
     omega (arith, ints, c.up_to.ensures.high, made, same, span.rising, span.small)
+
+pub most_kilograms-requires-clause-commodity : goal.most_kilograms-requires-clause-commodity
+most_kilograms-requires-clause-commodity c =
+    let t = c.args.tables.now in
+    let one = c.index-commodities-commodity.result in
+    let lt : c.args.commodity < length t.commodities = commodity_there t _ (has_month t c.args.month) c.args.commodity c.requires.exists in
+    let read = rw c.commodities.ensures at c.index-commodities-commodity.is in
+    subst IsCommodity (sym read) (c.requires.model.commodities c.args.commodity one lt)
