@@ -1,4 +1,4 @@
-use super::folders::{FOUR, ONE, SHARED, THREE, TWO};
+use super::folders::{EVEN, FOUR, ONE, SHARED, THREE, TWO};
 use super::{Held, system_of, tables_of, term_count};
 use opt_base::OutOfMemory;
 use opt_bound::{Leaf, leaf_at};
@@ -85,5 +85,14 @@ fn sixteen_hubs_and_thirty_two_points(rt: HostRuntime) -> Result<(), Fail> {
     let system = country(rt.alloc(), &FOUR)?;
     assert_eq!(rt; counts(&system), (3002, 3640, 10_528));
     assert_root(&rt, rt.alloc(), &system, 2357, 12_554_478_000)?;
+    Ok(())
+}
+
+/// By hand the least cost of this one is 3,527,700,000 mills.
+#[test]
+fn each_point_has_as_many_persons(rt: HostRuntime) -> Result<(), Fail> {
+    let system = country(rt.alloc(), &EVEN)?;
+    assert_eq!(rt; counts(&system), (962, 1072, 3268));
+    assert_root(&rt, rt.alloc(), &system, 727, 3_527_700_000)?;
     Ok(())
 }

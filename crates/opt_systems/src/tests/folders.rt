@@ -238,3 +238,35 @@ pub const FOUR: [Held<'static>; 3] = [
         P32,6,6000\n",
     ),
 ];
+
+/// The same size with one cost and one number of persons for all points.
+pub const EVEN: [Held<'static>; 3] = [
+    Held(
+        "d/places.csv",
+        b"place,kind,storage,throughput,handling,storage_cost\nS1,supplier,0,,0,0\n\
+        S2,supplier,0,,0,0\nS3,supplier,0,,0,0\nQ1,port,2000000,10000000,10,2\n\
+        Q2,port,2000000,10000000,10,2\nH1,hub,500000,,5,2\nH2,hub,500000,,5,2\n\
+        H3,hub,500000,,5,2\nH4,hub,500000,,5,2\nP1,point,0,,0,0\nP2,point,0,,0,0\n\
+        P3,point,0,,0,0\nP4,point,0,,0,0\nP5,point,0,,0,0\nP6,point,0,,0,0\nP7,point,0,,0,0\n\
+        P8,point,0,,0,0\n",
+    ),
+    Held(
+        "d/arcs.csv",
+        b"arc,from,to,cost,capacity,lead\nS1-Q1,S1,Q1,60,10000000,1\nS1-Q2,S1,Q2,60,10000000,1\n\
+        S2-Q1,S2,Q1,60,10000000,1\nS2-Q2,S2,Q2,60,10000000,1\nS3-Q1,S3,Q1,60,10000000,1\n\
+        S3-Q2,S3,Q2,60,10000000,1\nQ1-H1,Q1,H1,40,1000000,0\nQ1-H2,Q1,H2,40,1000000,0\n\
+        Q2-H3,Q2,H3,40,1000000,0\nQ2-H4,Q2,H4,40,1000000,0\nH1-P1,H1,P1,30,300000,0\n\
+        H1-P2,H1,P2,30,300000,0\nH2-P3,H2,P3,30,300000,0\nH2-P4,H2,P4,30,300000,0\n\
+        H3-P5,H3,P5,30,300000,0\nH3-P6,H3,P6,30,300000,0\nH4-P7,H4,P7,30,300000,0\n\
+        H4-P8,H4,P8,30,300000,0\n",
+    ),
+    Held(
+        "d/persons.csv",
+        b"place,month,persons\nP1,2,10000\nP1,3,10000\nP1,4,10000\nP1,5,10000\nP1,6,10000\n\
+        P2,2,10000\nP2,3,10000\nP2,4,10000\nP2,5,10000\nP2,6,10000\nP3,2,10000\nP3,3,10000\n\
+        P3,4,10000\nP3,5,10000\nP3,6,10000\nP4,2,10000\nP4,3,10000\nP4,4,10000\nP4,5,10000\n\
+        P4,6,10000\nP5,2,10000\nP5,3,10000\nP5,4,10000\nP5,5,10000\nP5,6,10000\nP6,2,10000\n\
+        P6,3,10000\nP6,4,10000\nP6,5,10000\nP6,6,10000\nP7,2,10000\nP7,3,10000\nP7,4,10000\n\
+        P7,5,10000\nP7,6,10000\nP8,2,10000\nP8,3,10000\nP8,4,10000\nP8,5,10000\nP8,6,10000\n",
+    ),
+];
