@@ -7,14 +7,14 @@ use Rattle.std.proofs.lemmas.Grind.{flat_map-append}
 use mathlib.Core.Path.{fun_ext}
 use Rattle.opt_model.specs.Tables.{Tables}
 use Rattle.opt_model.specs.Quantities.{over, list_if}
-use Rattle.opt_model.specs.Rows.{Terms, at_least, equal, at_least_row, equal_row, negation, nutrient_terms, bought_terms, arrived_terms, sent_terms}
+use Rattle.opt_model.specs.Rows.{Terms, at_least, equal, at_least_row, equal_row, negation, is_in_group, nutrient_terms, group_terms, bought_terms, arrived_terms, sent_terms}
 use Rattle.opt_model.specs.declared.records.Arc.{Arc}
 use Rattle.opt_model.specs.declared.quantity.Quantity.{Quantity}
 use Rattle.opt_model.specs.declared.quantity.Quantity.TheVariants.{Ration, Buy, Ship}
 use Rattle.opt_model.specs.declared.quantity.RowName.{RowName}
 use Rattle.opt_network.specs.Numbering.{Numbering, IsLayoutOf}
 use Rattle.opt_rows.specs.Gathering.{entries_of, AddsRow}
-use Rattle.opt_rows.specs.Listed.{step_content_of, step_contents, begins_in_plan, arrives_in_plan, sale_of, sales_at, way_of, arrivals_at, departures_from}
+use Rattle.opt_rows.specs.Listed.{step_content_of, step_contents, member_of, members_of, begins_in_plan, arrives_in_plan, sale_of, sales_at, offers_of, way_of, arrivals_at, departures_from}
 use Rattle.opt_rows.specs.Systems.{SystemRow, row_over}
 use Rattle.opt_rows.proofs.Absent.{no_entry, no_purchase, no_shipment, same_over, one_left_out, two_left_out}
 use Rattle.opt_rows.proofs.RowSteps.{term_is, entries_join, number_terms}
@@ -25,14 +25,6 @@ pub term_added : (qs : List Quantity) (now new : List (ℕ × ℤ)) (c : Quantit
     → new ≡ now ++ entries_of qs (c ∷ []) → new ≡ now ++ entries_of qs ((q, z) ∷ [])
 term_added qs now new c q z quantity coefficient added =
     added ∙ ap (λ (d : Quantity × ℤ). now ++ entries_of qs (d ∷ [])) (term_is c q z quantity coefficient)
-
--- the same where a test holds
-pub term_chosen : (qs : List Quantity) (now new : List (ℕ × ℤ)) (test other : Bool) (c : Quantity × ℤ) (q : Quantity) (z : ℤ) → test ≡ other → c.0 ≡ q → c.1 ≡ z
-    → new ≡ now ++ entries_of qs (list_if test (c ∷ [])) → new ≡ now ++ entries_of qs (list_if other ((q, z) ∷ []))
-term_chosen qs now new test other c q z same quantity coefficient added =
-    added
-    ∙ (ap (λ (b : Bool). now ++ entries_of qs (list_if b (c ∷ []))) same
-    ∙ ap (λ (d : Quantity × ℤ). now ++ entries_of qs (list_if other (d ∷ []))) (term_is c q z quantity coefficient))
 
 -- terms after terms
 pub both_terms : (qs : List Quantity) (xs ys : Terms) (old now new : List (ℕ × ℤ)) → now ≡ old ++ entries_of qs xs → new ≡ now ++ entries_of qs ys
@@ -102,6 +94,14 @@ pub over_listed : {A X Y : Type 0} (f : X → List Y) (test : A → Bool) (pick 
     → flat_map f (over xs (λ j x. list_if (test x) (pick j x ∷ []))) ≡ over xs (λ j x. list_if (test x) (f (pick j x)))
 over_listed f test pick xs = flat-listed f (λ r. test r.1) (λ r. pick r.0 r.1) (enumerate_from 0 xs)
 
+-- what each record adds, whatever its number
+flat-from : {A X : Type 0} (f : A → List X) (k : ℕ) (xs : List A) → flat_map (λ r. f r.1) (enumerate_from k xs) ≡ flat_map f xs
+flat-from f k [] = refl
+flat-from f k (x ∷ xs) = ap (λ ys. f x ++ ys) (flat-from f (k + 1) xs)
+
+over_flat : {A X : Type 0} (f : A → List X) (xs : List A) → over xs (λ _ x. f x) ≡ flat_map f xs
+over_flat f xs = flat-from f 0 xs
+
 -- ---- terms with the other sign
 negation-flat : {R : Type 0} (h : R → Terms) (rs : List R) → negation (flat_map h rs) ≡ flat_map (λ r. negation (h r)) rs
 negation-flat h [] = refl
@@ -125,20 +125,30 @@ pub nutrient_listed : (t : Tables) (basket nutrient month : ℕ)
     → flat_map (λ r. (Ration basket r.commodity month, r.units) ∷ []) (step_contents t nutrient) ≡ nutrient_terms t basket nutrient month
 nutrient_listed t basket nutrient month = over_listed (λ r. (Ration basket r.commodity month, r.units) ∷ []) (λ r. r.nutrient == nutrient) (λ _ r. step_content_of t r) t.contents
 
+-- the grams of a group's commodities
+pub group_listed : (t : Tables) (basket group month : ℕ) → flat_map (λ r. (Ration basket r.commodity month, r.step_g) ∷ []) (members_of t group) ≡ group_terms t basket group month
+group_listed t basket group month = over_listed (λ r. (Ration basket r.commodity month, r.step_g) ∷ []) (λ r. is_in_group r.group group) (λ c r. member_of c r) t.commodities
+
 -- the entries of what is bought, and of what arrives and leaves, from the lists without what has no quantity in the plan
 module _ (t : Tables) (layout : Numbering) (is : IsLayoutOf t layout) where
   abbrev entries : Terms → List (ℕ × ℤ)
   entries terms = entries_of layout.quantities terms
 
-  pub bought_listed : (place commodity month : ℕ)
+  sold_listed : (place commodity month : ℕ)
       → entries (flat_map (λ sale. list_if (sale.commodity == commodity) ((Buy sale.offer month, pos 1) ∷ [])) (sales_at t place)) ≡ entries (bought_terms t place commodity month)
-  bought_listed place commodity month =
+  sold_listed place commodity month =
       ap entries (over_listed (λ sale. list_if (sale.commodity == commodity) ((Buy sale.offer month, pos 1) ∷ [])) (λ offer. (offer.place == place) && begins_in_plan t offer) (λ o offer. sale_of o offer) t.offers)
       ∙ same_over layout.quantities (λ o offer. list_if ((offer.place == place) && begins_in_plan t offer) (list_if (offer.commodity == commodity) ((Buy o month, pos 1) ∷ [])))
       (λ o offer. list_if ((offer.place == place) && (offer.commodity == commodity)) ((Buy o month, pos 1) ∷ [])) t.offers
       (λ o offer there.
       two_left_out layout.quantities (offer.place == place) (begins_in_plan t offer) (offer.commodity == commodity) ((Buy o month, pos 1) ∷ [])
       (λ late. no_entry t layout is (Buy o month) (pos 1) (no_purchase t o month offer there late)))
+
+  pub bought_listed : (place commodity month : ℕ) → entries (flat_map (λ o. (Buy o month, pos 1) ∷ []) (offers_of (sales_at t place) commodity)) ≡ entries (bought_terms t place commodity month)
+  bought_listed place commodity month =
+      ap entries (over_listed (λ o. (Buy o month, pos 1) ∷ []) (λ sale. sale.commodity == commodity) (λ _ sale. sale.offer) (sales_at t place)
+      ∙ over_flat (λ sale. list_if (sale.commodity == commodity) ((Buy sale.offer month, pos 1) ∷ [])) (sales_at t place))
+      ∙ sold_listed place commodity month
 
   pub arrived_listed : (place commodity month : ℕ)
       → entries (flat_map (λ way. list_if (nat_lt way.lead month) ((Ship way.arc commodity (month - way.lead), pos 1) ∷ [])) (arrivals_at t place)) ≡ entries (arrived_terms t place commodity month)

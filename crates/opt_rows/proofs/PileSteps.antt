@@ -1,11 +1,12 @@
 -- Piles that are filled record by record.
-use Rattle.std.proofs.Common.{◌≡◌, ◌⊎◌, inl, inr, ℕ, ◌+◌, ◌<◌, ◌≤◌, ◌&&◌, ◌==◌, Bool, true, false, List, [], ◌∷◌, ◌++◌, length, take, get_or, replicate, refl, sym, ap, ◌∙◌, subst, arith, append-nil}
+use Rattle.std.proofs.Common.{◌≡◌, ◌⊎◌, inl, inr, ℕ, ◌+◌, ◌<◌, ◌≤◌, ◌&&◌, ◌==◌, Bool, true, false, List, [], ◌∷◌, ◌++◌, length, take, get_or, replicate, Option, Some, None, refl, sym, ap, ◌∙◌, subst, arith, append-nil}
 use Rattle.std.specs.List.{slice_set}
 use Rattle.std.proofs.lemmas.Bool.{cases_eq, eq-eqb, ne_eqb}
 use Rattle.std.proofs.lemmas.List.{get_or-set_same, get_or-set_other, get_or-replicate, length-replicate, length-set, take_all}
 use Rattle.opt_model.specs.Quantities.{over, list_if}
+use Rattle.opt_model.specs.Rows.{is_in_group}
 use Rattle.opt_network.proofs.RecordLists.{over-more}
-use Rattle.opt_rows.specs.Piles.{pile_at, pile_with, ArePiles}
+use Rattle.opt_rows.specs.Piles.{pile_at, pile_with, pile_in, ArePiles}
 
 module _ {A X : Type 0} (test : ℕ → A → Bool) (pick : ℕ → A → X) where
   -- what the records that pass the test of a pile are picked as
@@ -53,6 +54,19 @@ module _ {A X : Type 0} (test : ℕ → A → Bool) (pick : ℕ → A → X) whe
           get_or-set_other old number k items [] apart
           ∙ (so_far.filled k below ∙ (sym (append-nil (piled (take i rs) k)) ∙ behind k false (others k apart)))
 
+  -- one more record that is in no pile
+  pub piles_same : (count : ℕ) (rs : List A) (i : ℕ) (r : A) (old new : List (List X)) → i < length rs → r ≡ get_or rs i r → ((k : ℕ) → test k r ≡ false)
+      → new ≡ old → ArePiles count (piled (take i rs)) old → ArePiles count (piled (take (i + 1) rs)) new
+  piles_same count rs i r old new lt read none same so_far =
+      subst (ArePiles count (piled (take (i + 1) rs))) (sym same) (record {
+        each = so_far.each;
+        filled =
+            λ k below.
+            so_far.filled k below
+            ∙ (sym (append-nil (piled (take i rs) k))
+            ∙ (ap (λ (b : Bool). piled (take i rs) k ++ list_if b (pick i r ∷ [])) (sym (none k)) ∙ sym (one_more rs i r k lt read)));
+      })
+
 -- one more record in the pile of its key
 pub pile_keyed : {A X : Type 0} (key : A → ℕ) (pick : ℕ → A → X) (count : ℕ) (rs : List A) (i : ℕ) (r : A) (old new : List (List X)) → i < length rs → r ≡ get_or rs i r
     → new ≡ pile_with old (key r) (pick i r ∷ []) → ArePiles count (λ k. over (take i rs) λ n s. list_if (key s == k) (pick n s ∷ [])) old
@@ -72,3 +86,19 @@ pile_wanted key wanted pick count rs i r old new lt read added so_far =
 -- another item that is the same
 pub pile_put : {X : Type 0} (old new : List (List X)) (number : ℕ) (x y : X) → new ≡ pile_with old number (x ∷ []) → x ≡ y → new ≡ pile_with old number (y ∷ [])
 pile_put old new number x y added same = added ∙ ap (λ z. pile_with old number (z ∷ [])) same
+
+-- one more record in the pile of its group, where it has one
+pub pile_grouped : {A X : Type 0} (key : A → Option ℕ) (pick : ℕ → A → X) (count : ℕ) (rs : List A) (i : ℕ) (r : A) (old new : List (List X)) → i < length rs → r ≡ get_or rs i r
+    → new ≡ pile_in old (key r) (pick i r ∷ []) → ArePiles count (λ k. over (take i rs) λ n s. list_if (is_in_group (key s) k) (pick n s ∷ [])) old
+    → ArePiles count (λ k. over (take (i + 1) rs) λ n s. list_if (is_in_group (key s) k) (pick n s ∷ [])) new
+pile_grouped {X = X} key pick count rs i r old new lt read added so_far = by (key r) refl
+  where
+    by : (o : Option ℕ) → key r ≡ o → ArePiles count (λ k. over (take (i + 1) rs) λ n s. list_if (is_in_group (key s) k) (pick n s ∷ [])) new
+    by (Some number) is =
+        pile_more (λ k s. is_in_group (key s) k) pick count number true rs i r old new lt read
+        (ap (λ (o : Option ℕ). is_in_group o number) is ∙ eq-eqb number number refl)
+        (λ k apart. ap (λ (o : Option ℕ). is_in_group o k) is ∙ ne_eqb number k (λ e. apart (sym e)))
+        (added ∙ ap (λ (o : Option ℕ). pile_in old o (pick i r ∷ [])) is) so_far
+    by None is =
+        piles_same (λ k s. is_in_group (key s) k) pick count rs i r old new lt read (λ k. ap (λ (o : Option ℕ). is_in_group o k) is)
+        (added ∙ ap (λ (o : Option ℕ). pile_in old o (pick i r ∷ [])) is) so_far

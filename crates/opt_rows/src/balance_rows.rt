@@ -1,22 +1,23 @@
 //! The rows of the balances.
-ghost use Rattle.std.specs.Prelude.{◌≡◌, ◌<◌, ◌-◌, ◌^◌, [], ◌∷◌, ◌++◌, ◌==◌};
+ghost use Rattle.std.specs.Prelude.{◌≡◌, ◌<◌, ◌-◌, ◌^◌, [], ◌∷◌, ◌++◌};
 ghost use Rattle.std.specs.Prelude.{map, length, pos, neg_ℤ, OnOk};
 ghost use Rattle.std.specs.List.{flat_map};
 ghost use Rattle.opt_model.specs.Tables.{stock_at};
-ghost use Rattle.opt_model.specs.Quantities.{over, over_months, list_if};
+ghost use Rattle.opt_model.specs.Quantities.{over, over_months};
 ghost use Rattle.opt_model.specs.Rows.{kept_terms, balance_rows};
 ghost use Rattle.opt_model.specs.declared.quantity.Quantity.TheVariants.{Buy, Ship, Keep, Feed};
 ghost use Rattle.opt_tables.specs.Facts.{IsModel, IsFrom};
 ghost use Rattle.opt_network.specs.Numbering.{IsLayoutOf};
 ghost use Rattle.opt_rows.specs.Gathering.{entries_of};
-ghost use Rattle.opt_rows.specs.Listed.{AreFlowsOf, IsNetworkOf};
+ghost use Rattle.opt_rows.specs.Listed.{offers_of, sales_at, AreFlowsOf, IsNetworkOf};
+ghost use Rattle.opt_rows.specs.Piles.{ArePiles};
 ghost use Rattle.opt_rows.specs.Parts.{balance_row, balance_terms};
 ghost use Rattle.opt_rows.specs.Systems.{row_over};
 
 use crate::arrivals::add_arrivals;
-use crate::conditional_terms::add_term_if;
 use crate::counts::{commodity_count, month_count, place_count};
-use crate::flows::{Flows, Network, Sale, Way};
+use crate::flows::{Flows, Network, Way, offers_of};
+use crate::piles::Piles;
 use crate::spot::{Spot, handed_out};
 use crate::term_buffer::{TermBuffer, push_equal};
 use opt_base::OutOfMemory;
@@ -26,23 +27,22 @@ use opt_system::RowList;
 use opt_tables::Tables;
 use std::alloc::{AllocError, Global};
 
-/// Adds what is bought.
+/// Adds what is bought of these offers.
 fn add_bought(
     terms: &mut TermBuffer,
     layout: &Layout,
-    sales: &[Sale],
-    spot: Spot,
+    offers: &[u32],
+    month: u32,
 ) -> Result<(), OutOfMemory>
     ensures { OnOk result (terms.new ≡ terms.old ++ entries_of layout.now.quantities
-        (flat_map (λ sale. list_if (sale.commodity == spot.commodity)
-        ((Buy sale.offer spot.month, pos 1) ∷ [])) sales.now)) }
+        (flat_map (λ o. (Buy o month, pos 1) ∷ []) offers.now)) }
 {
-    for sale in sales {
+    for offer in offers {
         let buy = Quantity::Buy {
-            offer: sale.offer,
-            month: spot.month,
+            offer: *offer,
+            month,
         };
-        add_term_if(terms, layout, sale.commodity == spot.commodity, (buy, 1))?;
+        terms.add(layout, (buy, 1))?;
     }
     Ok(())
 }
@@ -125,10 +125,11 @@ fn add_terms(
     requires layout { IsLayoutOf tables.now layout.now }
     requires flows { AreFlowsOf tables.now flows.now }
     requires place { spot.place ≡ flows.now.place }
+    requires commodity { spot.commodity < length tables.now.commodities }
     ensures { OnOk result (terms.new ≡ terms.old ++ entries_of layout.now.quantities
         (balance_terms tables.now spot.place spot.commodity spot.month)) }
 {
-    add_bought(terms, layout, flows.sales, spot)?;
+    add_bought(terms, layout, flows.offers.pile(spot.commodity), spot.month)?;
     add_arrivals(terms, layout, flows.arrivals, spot)?;
     add_kept(terms, layout, spot)?;
     add_departures(terms, layout, flows.departures, spot)?;
@@ -166,6 +167,7 @@ fn add_row(
     requires layout { IsLayoutOf tables.now layout.now }
     requires flows { AreFlowsOf tables.now flows.now }
     requires place { spot.place ≡ flows.now.place }
+    requires commodity { spot.commodity < length tables.now.commodities }
     ensures { OnOk result (rows.new ≡ rows.old ++ map (row_over layout.now.quantities)
         (balance_row tables.now spot.place spot.commodity spot.month)) }
 {
@@ -187,6 +189,7 @@ fn add_months(
     requires model { IsModel tables.now }
     requires layout { IsLayoutOf tables.now layout.now }
     requires flows { AreFlowsOf tables.now flows.now }
+    requires commodity { commodity < length tables.now.commodities }
     ensures { OnOk result (rows.new ≡ rows.old ++ map (row_over layout.now.quantities)
         (over_months tables.now (balance_row tables.now flows.now.place commodity))) }
 {
@@ -222,6 +225,36 @@ fn add_commodities(
     Ok(())
 }
 
+/// Adds the balances at a place with these offers.
+fn add_offered(
+    rows: &mut RowList,
+    alloc: Global,
+    tables: &Tables,
+    layout: &Layout,
+    network: &Network,
+    offers: &Piles<u32>,
+    place: u32,
+) -> Result<(), OutOfMemory>
+    requires model { IsModel tables.now }
+    requires layout { IsLayoutOf tables.now layout.now }
+    requires network { IsNetworkOf tables.now network.now }
+    requires offers { ArePiles (length tables.now.commodities)
+        (offers_of (sales_at tables.now place)) offers.now }
+    requires place { place < length tables.now.places }
+    ensures { OnOk result (rows.new ≡ rows.old ++ map (row_over layout.now.quantities)
+        (over tables.now.commodities λ c _.
+        over_months tables.now (balance_row tables.now place c))) }
+{
+    let flows = Flows {
+        place,
+        offers,
+        arrivals: network.arrivals(place),
+        departures: network.departures(place),
+    };
+    add_commodities(rows, alloc, tables, layout, &flows)?;
+    Ok(())
+}
+
 /// Adds the balances at a place.
 fn add_place(
     rows: &mut RowList,
@@ -239,13 +272,8 @@ fn add_place(
         (over tables.now.commodities λ c _.
         over_months tables.now (balance_row tables.now place c))) }
 {
-    let flows = Flows {
-        place,
-        sales: network.sales(place),
-        arrivals: network.arrivals(place),
-        departures: network.departures(place),
-    };
-    add_commodities(rows, alloc, tables, layout, &flows)?;
+    let offers = offers_of(alloc, tables, network.sales(place))?;
+    add_offered(rows, alloc, tables, layout, network, &offers, place)?;
     Ok(())
 }
 

@@ -77,7 +77,7 @@ fn storage_cost_of(tables: &Tables, number: u32) -> i64
 }
 
 /// What a unit of a quantity costs, in mills.
-fn mills_of(tables: &Tables, quantity: Quantity) -> i64
+pub fn mills_of(tables: &Tables, quantity: Quantity) -> i64
     ensures { result ≡ mills_of tables.now quantity }
 {
     match quantity {

@@ -3,7 +3,7 @@ ghost use Rattle.std.specs.Prelude.{◌≡◌, ◌<◌, length, IfOk};
 ghost use Rattle.opt_tables.specs.Facts.{IsModel};
 ghost use Rattle.opt_rows.specs.Piles.{pile_at, ArePiles};
 ghost use Rattle.opt_rows.specs.Listed.{sale_of, sales_at, way_of, arrivals_at, departures_from};
-ghost use Rattle.opt_rows.specs.Listed.{begins_in_plan, arrives_in_plan, IsNetworkOf};
+ghost use Rattle.opt_rows.specs.Listed.{offers_of, begins_in_plan, arrives_in_plan, IsNetworkOf};
 
 use crate::piles::Piles;
 use opt_model::{Arc, Offer};
@@ -28,7 +28,8 @@ pub struct Way {
 #[derive(Clone, Copy)]
 pub struct Flows<'a> {
     pub place: u32,
-    pub sales: &'a [Sale],
+    /// The numbers of the offers at the place, by their commodities.
+    pub offers: &'a Piles<u32>,
     /// The arcs that lead to the place.
     pub arrivals: &'a [Way],
     /// The arcs that lead from the place.
@@ -115,6 +116,17 @@ fn departures_of(alloc: Global, tables: &Tables) -> Result<Piles<Way>, AllocErro
         departures.add_if(arrives_in_plan(tables, arc), arc.from_place, way)?;
     }
     Ok(departures)
+}
+
+/// The numbers of the offers that sell this, by their commodities.
+pub fn offers_of(alloc: Global, tables: &Tables, sales: &[Sale]) -> Result<Piles<u32>, AllocError>
+    ensures { IfOk result (ArePiles (length tables.now.commodities) (offers_of sales.now)) }
+{
+    let mut offers = Piles::new(alloc, tables.commodities().len())?;
+    for sale in sales {
+        offers.add(sale.commodity, sale.offer)?;
+    }
+    Ok(offers)
 }
 
 impl Network {

@@ -5,13 +5,13 @@ mod arc_rows;
 mod arrivals;
 mod balance_rows;
 mod building;
-mod conditional_terms;
 mod cost_terms;
 mod costs;
 mod counts;
 mod diet_names;
 mod flows;
 mod goal_rows;
+mod group_members;
 mod group_rows;
 mod handout_names;
 mod handout_rows;
@@ -40,7 +40,11 @@ mod texts;
 mod throughput_rows;
 
 pub use building::{build, build_goal};
+pub use costs::mills_of;
 pub use limits::{ENTRY_LIMIT, node_limit};
 pub use names::row_name;
 pub use opt_model::RowName;
+pub use record_names::{
+    arc_name, basket_name, commodity_name, group_name, nutrient_name, offer_name, place_name,
+};
 pub use texts::row_text;

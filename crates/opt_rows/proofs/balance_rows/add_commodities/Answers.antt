@@ -9,3 +9,6 @@ loop-commodity-preserved c =
     let t = c.args.tables.now in
     let within : c.loop-commodity.commodity < length t.commodities = omega (arith, c.loop-commodity-test.true, c.commodity_count-commodity-end.ensures) in
     number_rows c.args.layout.now.quantities _ _ _ (λ n. over_months t (balance_row t c.args.flows.now.place n)) t.commodities _ within c.loop-commodity.invariant c.in_ok-add_months.ensures
+
+pub add_months-requires-clause-commodity : goal.add_months-requires-clause-commodity
+add_months-requires-clause-commodity c = omega (arith, c.loop-commodity-test.true, c.commodity_count-commodity-end.ensures)

@@ -1,18 +1,13 @@
-use Rattle.std.proofs.Common.{◌∙◌, arith}
+use Rattle.std.proofs.Common.{ℕ, length, List, ap, ◌∙◌, subst, sym, arith}
+use Rattle.opt_rows.specs.declared.flows.Sale.{Sale}
+use Rattle.opt_rows.specs.Listed.{offers_of}
+use Rattle.opt_rows.specs.Piles.{ArePiles}
 use Rattle.opt_rows.proofs.balance_rows.add_place.Goals as goal
 
 pub sales-requires : goal.sales-requires
 sales-requires c = omega (arith, c.requires.network.sales.each, c.requires.place)
 
-pub arrivals-requires : goal.arrivals-requires
-arrivals-requires c = omega (arith, c.requires.network.arrivals.each, c.requires.place)
-
-pub departures-requires : goal.departures-requires
-departures-requires c = omega (arith, c.requires.network.departures.each, c.requires.place)
-
-pub add_commodities-requires-clause-flows : goal.add_commodities-requires-clause-flows
-add_commodities-requires-clause-flows c = record {
-  sales = c.sales.ensures ∙ c.requires.network.sales.filled c.args.place c.requires.place;
-  arrivals = c.arrivals.ensures ∙ c.requires.network.arrivals.filled c.args.place c.requires.place;
-  departures = c.departures.ensures ∙ c.requires.network.departures.filled c.args.place c.requires.place;
-}
+pub add_offered-requires-clause-offers : goal.add_offered-requires-clause-offers
+add_offered-requires-clause-offers c =
+    subst (λ (sales : List Sale). ArePiles (length c.args.tables.now.commodities) (offers_of sales) c.in_ok-offers.offers)
+    (c.sales.ensures ∙ c.requires.network.sales.filled c.args.place c.requires.place) c.in_ok-offers.ensures
