@@ -34,6 +34,13 @@ impl Calls {
         self.failed
     }
 
+    /// How many calls were made.
+    pub fn made(&self) -> u64
+        ensures { result ≡ self.now.made }
+    {
+        self.made
+    }
+
     /// Counts one more call, and whether it fails.
     pub fn next_fails(&mut self) -> bool
         ensures counted { self.new.made ≡ min (self.old.made + 1) (2 ^ 64 - 1) }

@@ -1,6 +1,6 @@
-ghost use Rattle.std.specs.Prelude.{◌≡◌, Some, option_copied, option_map, IfOk, OnOk, OnErr};
+ghost use Rattle.std.specs.Prelude.{◌≡◌, Some, None, option_copied, option_map, IfOk, OnOk, OnErr, IsErrOf};
 ghost use Rattle.opt_base.specs.Outside.{no_files, held_at, written, without, IsFound, IsWithin, HasCause};
-ghost use Rattle.opt_base.specs.Calls.{calls_of_shelf, IsScripted};
+ghost use Rattle.opt_base.specs.Calls.{calls_of_shelf, IsScripted, IsScriptedPut, tear_of, left_by};
 
 use crate::calls::Calls;
 use crate::out_of_memory::OutOfMemory;
@@ -8,11 +8,19 @@ use crate::outside::{Found, GetFault, PutFault, Shelf};
 use crate::sure_shelf::SureShelf;
 use std::alloc::Global;
 
+/// A `put` that is to fail half-way: the number of its call, and how many of its bytes stand then at its path.
+#[derive(Debug, Clone, Copy)]
+pub(crate) struct Tear {
+    call: u64,
+    kept: u64,
+}
+
 /// A shelf in memory whose calls fail by a script.
 #[derive(Debug, Drop)]
 pub struct MemShelf {
     shelf: SureShelf,
     calls: Calls,
+    tear: Option<Tear>,
 }
 
 impl MemShelf {
@@ -22,11 +30,13 @@ impl MemShelf {
         ensures faults { IfOk result (λ shelf. ⟦<MemShelf as Shelf>⟧.count shelf ≡ 0) }
         ensures fails { IfOk result (λ shelf. (calls_of_shelf shelf).fails.items ≡ fails.now) }
         ensures made { IfOk result (λ shelf. (calls_of_shelf shelf).made ≡ 0) }
+        ensures whole { IfOk result (λ shelf. tear_of shelf ≡ None) }
     {
         let calls = Calls::new(alloc, fails)?;
         Ok(MemShelf {
             shelf: SureShelf::new(alloc),
             calls,
+            tear: None,
         })
     }
 
@@ -44,8 +54,44 @@ impl MemShelf {
         ensures err { OnErr result (⟦<MemShelf as Shelf>⟧.files self.new
             ≡ ⟦<MemShelf as Shelf>⟧.files self.old) }
         ensures uncounted { calls_of_shelf self.new ≡ calls_of_shelf self.old }
+        ensures tear { tear_of self.new ≡ tear_of self.old }
     {
         self.shelf.load(path, bytes)
+    }
+
+    /// Makes the call of this number, where it is a `put` that is to fail, leave the first `kept` of its bytes at its
+    /// path, or all where there are fewer. The last call and count that were given hold. It takes no memory.
+    pub fn torn(&mut self, call: u64, kept: u64)
+        ensures tear { tear_of self.new ≡ Some (call, kept) }
+        ensures files { ⟦<MemShelf as Shelf>⟧.files self.new ≡ ⟦<MemShelf as Shelf>⟧.files self.old }
+        ensures calls { calls_of_shelf self.new ≡ calls_of_shelf self.old }
+    {
+        self.tear = Some(Tear { call, kept });
+    }
+
+    /// Fails the `put` that was counted last: where it is the one that is torn, its first bytes stand at its path.
+    fn fail(&mut self, path: &str, bytes: &[u8]) -> PutFault
+        ensures failed { result ≡ PutFault.Failed → ⟦<MemShelf as Shelf>⟧.files self.new
+            ≡ option_map (left_by (tear_of self.old) (calls_of_shelf self.old).made path.now bytes.now)
+            (⟦<MemShelf as Shelf>⟧.files self.old) }
+        ensures out_of_memory { result ≡ PutFault.OutOfMemory
+            → ⟦<MemShelf as Shelf>⟧.files self.new ≡ ⟦<MemShelf as Shelf>⟧.files self.old }
+        ensures others { option_map (without path.now) (⟦<MemShelf as Shelf>⟧.files self.new)
+            ≡ option_map (without path.now) (⟦<MemShelf as Shelf>⟧.files self.old) }
+        ensures calls { calls_of_shelf self.new ≡ calls_of_shelf self.old }
+        ensures tear { tear_of self.new ≡ tear_of self.old }
+    {
+        let Some(tear) = self.tear else {
+            return PutFault::Failed;
+        };
+        if tear.call != self.calls.made() {
+            return PutFault::Failed;
+        }
+        let kept = tear.kept.min(bytes.len() as u64) as usize;
+        match self.shelf.load(path, &bytes[..kept]) {
+            Ok(()) => PutFault::Failed,
+            Err(OutOfMemory) => PutFault::OutOfMemory,
+        }
     }
 }
 
@@ -65,6 +111,7 @@ impl Shelf for MemShelf {
         ensures cause { HasCause GetFault.Failed
             (⟦<MemShelf as Shelf>⟧.count self.old) (⟦<MemShelf as Shelf>⟧.count self.new) result }
         ensures script { IsScripted GetFault.Failed (calls_of_shelf self.old) (calls_of_shelf self.new) result }
+        ensures tear { tear_of self.new ≡ tear_of self.old }
     {
         if self.calls.next_fails() {
             return Err(GetFault::Failed);
@@ -77,14 +124,18 @@ impl Shelf for MemShelf {
             ≡ option_map (written path.now bytes.now) (⟦<MemShelf as Shelf>⟧.files self.old)) }
         ensures others { option_map (without path.now) (⟦<MemShelf as Shelf>⟧.files self.new)
             ≡ option_map (without path.now) (⟦<MemShelf as Shelf>⟧.files self.old) }
-        ensures err { OnErr result (⟦<MemShelf as Shelf>⟧.files self.new
-            ≡ ⟦<MemShelf as Shelf>⟧.files self.old) }
+        ensures failed { IsErrOf result PutFault.Failed → ⟦<MemShelf as Shelf>⟧.files self.new
+            ≡ option_map (left_by (tear_of self.old) (calls_of_shelf self.new).made path.now bytes.now)
+            (⟦<MemShelf as Shelf>⟧.files self.old) }
+        ensures out_of_memory { IsErrOf result PutFault.OutOfMemory
+            → ⟦<MemShelf as Shelf>⟧.files self.new ≡ ⟦<MemShelf as Shelf>⟧.files self.old }
         ensures cause { HasCause PutFault.Failed
             (⟦<MemShelf as Shelf>⟧.count self.old) (⟦<MemShelf as Shelf>⟧.count self.new) result }
-        ensures script { IsScripted PutFault.Failed (calls_of_shelf self.old) (calls_of_shelf self.new) result }
+        ensures script { IsScriptedPut (calls_of_shelf self.old) (calls_of_shelf self.new) result }
+        ensures tear { tear_of self.new ≡ tear_of self.old }
     {
         if self.calls.next_fails() {
-            return Err(PutFault::Failed);
+            return Err(self.fail(path, bytes));
         }
         self.shelf.load(path, bytes)?;
         Ok(())

@@ -76,6 +76,24 @@ fn mem_shelf_fails_by_its_script(rt: HostRuntime) -> Result<(), Fail> {
 }
 
 #[test]
+fn put_can_be_torn(rt: HostRuntime) -> Result<(), Fail> {
+    let alloc = rt.alloc();
+    let mut shelf = MemShelf::new(alloc, &[1, 2, 3])?;
+    shelf.load("a", b"rice")?;
+    shelf.torn(1, 4);
+    shelf.torn(2, 3);
+    assert_eq!(rt; shelf.put("a", b"beans"), Err(PutFault::Failed));
+    assert_eq!(rt; shelf.held("a").unwrap_or(b"missing"), b"rice".as_slice());
+    assert_eq!(rt; shelf.put("a", b"beans"), Err(PutFault::Failed));
+    assert_eq!(rt; shelf.held("a").unwrap_or(b"missing"), b"bea".as_slice());
+    shelf.torn(3, 9);
+    assert_eq!(rt; shelf.put("a", b"beans"), Err(PutFault::Failed));
+    assert_eq!(rt; shelf.held("a").unwrap_or(b"missing"), b"beans".as_slice());
+    assert_eq!(rt; shelf.faults(), 3);
+    Ok(())
+}
+
+#[test]
 fn sinks_keep_what_is_written(rt: HostRuntime) -> Result<(), Fail> {
     let mut sure = SureSink::new(rt.alloc());
     say(&mut sure, b"plan ")?;
