@@ -1,0 +1,20 @@
+mod NameLists
+mod Remainders
+mod Listing
+mod PlanTexts
+mod ReadRows
+mod Breaches
+mod PointValues
+mod TermSums
+mod ModelSystems
+mod Sums
+mod CostTexts
+mod BasketTexts
+mod WrittenText
+mod WrittenNumbers
+mod WrittenGrid
+mod ReadNames
+mod ReadSubjects
+mod WrittenWords
+mod ReadValues
+pub mod PlanBack

@@ -1,0 +1,8 @@
+use Rattle.std.proofs.Common.{◌≡◌, ◌++◌, take}
+use Rattle.opt_model.specs.Quantities.{over}
+use Rattle.opt_report.specs.Rations.{ration_record}
+use Rattle.opt_report.specs.PointPlans.{plan_with}
+use Rattle.opt_report.proofs.basket_report.add_rations.Given as goal
+
+abbrev pub invariant-loop-number : goal.invariant-loop-number
+invariant-loop-number l = l.text.items ≡ l.initial.text.items ++ (over (take l.number l.tables.commodities) λ n _. ration_record l.tables (plan_with l.plan) l.at.month l.at.basket n)

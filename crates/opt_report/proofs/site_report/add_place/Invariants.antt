@@ -1,0 +1,8 @@
+use Rattle.std.proofs.Common.{◌≡◌, ◌++◌, take}
+use Rattle.opt_model.specs.Quantities.{over}
+use Rattle.opt_report.specs.Sites.{site_record}
+use Rattle.opt_report.specs.PointPlans.{plan_with}
+use Rattle.opt_report.proofs.site_report.add_place.Given as goal
+
+abbrev pub invariant-loop-commodity : goal.invariant-loop-commodity
+invariant-loop-commodity l = l.text.items ≡ l.initial.text.items ++ (over (take l.commodity l.tables.commodities) λ c _. site_record l.tables (plan_with l.plan) l.month l.place c)

@@ -1,0 +1,12 @@
+pub mod Words
+pub mod Units
+pub mod Subjects
+pub mod PlanFiles
+pub mod Broken
+pub mod Audits
+pub mod PointPlans
+pub mod Sites
+pub mod Spending
+pub mod Rations
+pub mod Reports
+pub mod Summaries
