@@ -1,3 +1,4 @@
 pub mod Answer
 pub mod Delivery
 pub mod Fault
+pub mod Runs

@@ -1,12 +1,9 @@
-mod OneBasket
-mod BelowZero
-mod NeverBelow
-mod FirstPlan
-mod Candidates
-mod Rounding
-mod Given
-mod PlanFile
-mod Counting
-mod Counts
-mod Commands
-mod Headline
+pub mod Folders
+pub mod Replies
+pub mod Outcomes
+pub mod Certificates
+pub mod Plans
+pub mod Breaches
+pub mod Lengths
+pub mod Readable
+pub mod ReportPuts

@@ -1,8 +1,8 @@
+pub mod Folder
+pub mod Answers
 pub mod Verdicts
-pub mod OneBasket
-pub mod First
-pub mod Candidate
-pub mod PlanFile
-pub mod Counts
-pub mod Plan
+pub mod Planning
+pub mod Checking
+pub mod Auditing
+pub mod Reporting
 pub mod Words

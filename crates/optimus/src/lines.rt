@@ -1,14 +1,14 @@
 ghost use Rattle.std.specs.Prelude.{◌≡◌, IfOk, string_bytes};
 ghost use Rattle.opt_model.specs.Texts.{outcome_line, best_text, kind_text, record_text, column_text, refusal_line};
-ghost use Rattle.optimus.specs.Verdicts.{HasNumbers};
+ghost use Rattle.opt_report.specs.Summaries.{IsSummed};
 
 use opt_base::{File, Kind, Refusal};
 use opt_model::{Verdict, column_name, file_name};
 use std::alloc::{AllocError, Global};
 
-/// The line of a verdict, with the number of nodes.
+/// The line of a verdict, with the number of nodes. Its numbers are from 0 to 2^126.
 pub fn line_of_verdict(alloc: Global, verdict: &Verdict, nodes: u32) -> Result<String, AllocError>
-    requires { HasNumbers verdict.now }
+    requires { IsSummed verdict.now }
     ensures { IfOk result (λ text. string_bytes text ≡ outcome_line verdict.now nodes) }
 {
     match *verdict {
@@ -85,7 +85,7 @@ fn text_of_column(alloc: Global, file: File, column: u8) -> Result<String, Alloc
     }
 }
 
-/// The line of a refusal of the model.
+/// The line of a refusal of the model or of a plan file.
 pub fn line_of_refusal(alloc: Global, refusal: &Refusal) -> Result<String, AllocError>
     ensures { IfOk result (λ text. string_bytes text ≡ refusal_line refusal.now) }
 {

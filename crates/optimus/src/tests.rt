@@ -1,32 +1,115 @@
+mod auditing;
+mod certificates;
+mod countries;
+mod country_folders;
+mod faults;
+mod formats;
 mod limits;
-mod network;
+mod planning;
 mod refusals;
+mod reporting;
+mod unfinished;
+mod words;
 
 use crate::optimus;
-use opt_base::{MemShelf, MemSink, OutOfMemory, Shelf, Sink, SureShelf, SureSink};
+use opt_base::{OutOfMemory, SureShelf, SureSink};
 use std::alloc::{AllocError, Global};
 use std::process::Abort;
-use std::test::Fail;
 
-/// The settings of a basket of one month.
-const SETTINGS: &str =
-    "format = 1\nmonths = 1\ndays = [30]\ngoal = \"shortfall\"\ngap = 300\nnodes = 1\n";
-
-const COMMODITIES: &str = "commodity,group,min_g,max_g,step_g\nrice,,0,500,10\n";
-
-const NUTRIENTS: &str = "nutrient,required,max_short,weight\nenergy,2100,2100,1\n";
-
-const CONTENTS: &str = "commodity,nutrient,per_100g\nrice,energy,360\n";
-
-/// The plan file of the basket: 500 g of rice give 1800 of the 2100 that are needed.
-const PLAN: &str =
-    "quantity,name,commodity,month,amount\nration,rice,,1,500\nshort,energy,,1,300\n";
-
-/// A file of the folder `d`, with what it holds.
+/// The path of a file, and what it holds.
 #[derive(Clone, Copy)]
-struct Change<'a> {
-    path: &'a str,
-    text: &'a str,
+struct Held<'a>(&'a str, &'a str);
+
+/// What is said to be held at a path at which nothing is.
+const MISSING: &str = "missing";
+
+/// A basket of one month: 500 g of rice give 1800 of the 2100 that are needed.
+const BASKET: [Held<'static>; 4] = [
+    Held(
+        "d/settings.toml",
+        "format = 1\nmonths = 1\ndays = [30]\ngoal = \"shortfall\"\ngap = 300\nnodes = 1\n",
+    ),
+    Held(
+        "d/commodities.csv",
+        "commodity,group,min_g,max_g,step_g\nrice,,0,500,10\n",
+    ),
+    Held(
+        "d/nutrients.csv",
+        "nutrient,required,max_short,weight\nenergy,2100,2100,1\n",
+    ),
+    Held(
+        "d/contents.csv",
+        "commodity,nutrient,per_100g\nrice,energy,360\n",
+    ),
+];
+
+/// Rice that is bought at S, moved to P and eaten there by 1,000 persons in one month.
+const LINE: [Held<'static>; 8] = [
+    Held(
+        "d/settings.toml",
+        "format = 1\nmonths = 1\ndays = [30]\ngoal = \"cost\"\ngap = 0\nnodes = 1000\n",
+    ),
+    Held(
+        "d/commodities.csv",
+        "commodity,group,min_g,max_g,step_g\nrice,,0,600,10\n",
+    ),
+    Held(
+        "d/nutrients.csv",
+        "nutrient,required,max_short,weight\nenergy,2100,0,1\n",
+    ),
+    Held(
+        "d/contents.csv",
+        "commodity,nutrient,per_100g\nrice,energy,360\n",
+    ),
+    Held(
+        "d/places.csv",
+        "place,kind,storage,throughput,handling,storage_cost\nS,supplier,0,,0,0\nP,point,0,,0,0\n",
+    ),
+    Held(
+        "d/offers.csv",
+        "offer,place,commodity,price,max_kg,first,last\no1,S,rice,450,20000,1,1\n",
+    ),
+    Held(
+        "d/arcs.csv",
+        "arc,from,to,cost,capacity,lead\na1,S,P,50,20000,0\n",
+    ),
+    Held("d/persons.csv", "place,month,persons\nP,1,1000\n"),
+];
+
+/// The plan file of the line: 59 steps are the least that give what is needed, and 1,000 persons get 17,700 kg.
+const LINE_PLAN: &str = "quantity,name,commodity,month,amount\n\
+    ration,rice,,1,590\nbuy,o1,,1,17700\nship,a1,rice,1,17700\nfeed,P,rice,1,17700\n";
+
+/// A certificate of the line. Its root line shows 52,500,000 / 6, its left leaf that 58 steps are too few, its
+/// right leaf 17,700,000 / 2.
+const LINE_CERTIFICATE: &str = "optimus-certificate 1\nplan 8850000 8850000\n\
+    root 6 4 0:250 1:3 3:2700 4:3000\npoint 4 0:59 2:17700 3:17700 4:17700\nsplit 0 58\n\
+    leaf 0 1 0:1\nleaf 2 3 1:1 3:900 4:1000\nend\n";
+
+const LINE_SUMMARY: &str = "{\"bound\":\"8850000\",\"gap\":\"0\",\"goal\":\"cost\",\"nodes\":3,\
+    \"objective\":\"8850000\",\"verdict\":\"plan\"}\n";
+
+/// The line printed of the plan of the line.
+const LINE_VERDICT: &str = "plan 8850000 bound 8850000 gap 0 nodes 3\n";
+
+/// Makes a shelf hold these files.
+fn hold(shelf: &mut SureShelf, held: &[Held<'_>]) -> Result<(), OutOfMemory> {
+    for one in held {
+        shelf.load(one.0, one.1.as_bytes())?;
+    }
+    Ok(())
+}
+
+/// A shelf with some files, of which a later one stands for an earlier one of the same path.
+fn shelf_of(
+    alloc: Global,
+    held: &[Held<'_>],
+    changes: &[Held<'_>],
+) -> Result<SureShelf, OutOfMemory> {
+    let mut shelf = SureShelf::new(alloc);
+    hold(&mut shelf, held)?;
+    hold(&mut shelf, changes)?;
+    Ok(shelf)
 }
 
 /// The words of a command line.
@@ -38,294 +121,91 @@ fn words_of(alloc: Global, words: &[&str]) -> Result<Vec<String>, AllocError> {
     Ok(made)
 }
 
-/// The basket in the folder `d`.
-fn basket(alloc: Global) -> Result<SureShelf, OutOfMemory> {
-    let mut shelf = SureShelf::new(alloc);
-    shelf.load("d/settings.toml", SETTINGS.as_bytes())?;
-    shelf.load("d/commodities.csv", COMMODITIES.as_bytes())?;
-    shelf.load("d/nutrients.csv", NUTRIENTS.as_bytes())?;
-    shelf.load("d/contents.csv", CONTENTS.as_bytes())?;
-    Ok(shelf)
-}
-
-/// The same on a shelf whose calls of these numbers fail.
-fn failing_basket(alloc: Global, fails: &[u64]) -> Result<MemShelf, OutOfMemory> {
-    let mut shelf = MemShelf::new(alloc, fails)?;
-    shelf.load("d/settings.toml", SETTINGS.as_bytes())?;
-    shelf.load("d/commodities.csv", COMMODITIES.as_bytes())?;
-    shelf.load("d/nutrients.csv", NUTRIENTS.as_bytes())?;
-    shelf.load("d/contents.csv", CONTENTS.as_bytes())?;
-    Ok(shelf)
-}
-
-/// What `plan d` answers on the basket with a change.
+/// What the program answered.
 #[derive(Drop)]
 struct Answer {
     status: u8,
     out: SureSink,
     err: SureSink,
-    shelf: SureShelf,
 }
 
-fn planned(alloc: Global, changes: &[Change<'_>]) -> Result<Answer, OutOfMemory> {
-    let mut shelf = basket(alloc)?;
-    for change in changes {
-        shelf.load(change.path, change.text.as_bytes())?;
-    }
-    let words = words_of(alloc, &["plan", "d"])?;
-    let mut out = SureSink::new(alloc);
-    let mut err = SureSink::new(alloc);
-    let status = optimus(alloc, &words, &mut shelf, &mut out, &mut err);
-    Ok(Answer {
-        status,
-        out,
-        err,
-        shelf,
-    })
-}
-
-fn expect_planned(rt: &impl Abort, answer: &Answer, status: u8, line: &str, file: &str) {
-    assert_eq!(rt; answer.status, status);
-    assert_eq!(rt; answer.out.written(), line.as_bytes());
-    assert_eq!(rt; answer.err.written(), b"".as_slice());
-    assert_eq!(rt;
-        answer.shelf.held("d/plan.csv").unwrap_or(b"missing"),
-        file.as_bytes()
-    );
-}
-
-fn expect_refused(rt: &impl Abort, answer: &Answer, line: &str) {
-    assert_eq!(rt; answer.status, 3);
-    assert_eq!(rt; answer.out.written(), b"".as_slice());
-    assert_eq!(rt; answer.err.written(), line.as_bytes());
-    assert!(rt; answer.shelf.held("d/plan.csv").is_none());
-}
-
-#[test]
-fn plans_the_basket(rt: HostRuntime) -> Result<(), Fail> {
-    let alloc = rt.alloc();
-    let answer = planned(alloc, &[])?;
-    expect_planned(&rt, &answer, 0, "plan 300 bound 0 gap 300 nodes 1\n", PLAN);
-    // A gap of 299 does not admit a shortfall of 300.
-    let settings =
-        "format = 1\nmonths = 1\ndays = [30]\ngoal = \"shortfall\"\ngap = 299\nnodes = 1\n";
-    let answer = planned(
-        alloc,
-        &[Change {
-            path: "d/settings.toml",
-            text: settings,
-        }],
-    )?;
-    expect_planned(
-        &rt,
-        &answer,
-        2,
-        "unfinished bound 0 best 300 nodes 1\n",
-        PLAN,
-    );
-    // A shortfall of at most 299 leaves no plan.
-    let nutrients = "nutrient,required,max_short,weight\nenergy,2100,299,1\n";
-    let answer = planned(
-        alloc,
-        &[Change {
-            path: "d/nutrients.csv",
-            text: nutrients,
-        }],
-    )?;
-    expect_planned(
-        &rt,
-        &answer,
-        2,
-        "unfinished bound 0 best none nodes 1\n",
-        "",
-    );
-    Ok(())
-}
-
-#[test]
-fn reads_the_tables_as_they_come(rt: HostRuntime) -> Result<(), Fail> {
-    let commodities =
-        "\u{feff}step_g,commodity,group,note,max_g,min_g\r\n10,\"rice, white\",,spring,600,0\r\n";
-    let contents = "nutrient, commodity ,per_100g\nenergy,\t\"rice, white\",360\n";
-    let quoted = "nutrient,commodity,per_100g\nenergy,\"rice, white\",0360\n";
-    let answer = planned(
-        rt.alloc(),
-        &[
-            Change {
-                path: "d/commodities.csv",
-                text: commodities,
-            },
-            Change {
-                path: "d/contents.csv",
-                text: quoted,
-            },
-        ],
-    )?;
-    // 600 g give 2160, more than is needed.
-    let file = "quantity,name,commodity,month,amount\nration,\"rice, white\",,1,600\n";
-    expect_planned(&rt, &answer, 0, "plan 0 bound 0 gap 0 nodes 1\n", file);
-    // A quote that does not begin a field is no quote, so this record has a field more.
-    let answer = planned(
-        rt.alloc(),
-        &[
-            Change {
-                path: "d/commodities.csv",
-                text: commodities,
-            },
-            Change {
-                path: "d/contents.csv",
-                text: contents,
-            },
-        ],
-    )?;
-    expect_refused(&rt, &answer, "refused contents.csv record 1: Uneven\n");
-    Ok(())
-}
-
-#[test]
-fn names_what_is_wrong_with_a_file(rt: HostRuntime) -> Result<(), Fail> {
-    let alloc = rt.alloc();
-    let groups = Change {
-        path: "d/groups.csv",
-        text: "x",
-    };
-    expect_refused(
-        &rt,
-        &planned(alloc, &[groups])?,
-        "refused groups.csv column group: ColumnMissing\n",
-    );
-    let no_goal = Change {
-        path: "d/settings.toml",
-        text: "format = 1\nmonths = 1\ndays = [30]\ngap = 300\nnodes = 1\n",
-    };
-    let line = "refused settings.toml column goal: SettingMissing\n";
-    expect_refused(&rt, &planned(alloc, &[no_goal])?, line);
-    let unclosed = Change {
-        path: "d/settings.toml",
-        text: "format = 1\nmonths = 1\ndays = [30\ngoal = \"shortfall\"\ngap = 300\nnodes = 1\n",
-    };
-    expect_refused(
-        &rt,
-        &planned(alloc, &[unclosed])?,
-        "refused settings.toml: TomlRefused\n",
-    );
-    Ok(())
-}
-
-#[test]
-fn names_the_first_wrong_record(rt: HostRuntime) -> Result<(), Fail> {
-    let alloc = rt.alloc();
-    let twice = Change {
-        path: "d/commodities.csv",
-        text: "commodity,group,min_g,max_g,step_g\nrice,,0,500,10\nrice,,0,100,10\n",
-    };
-    let number = Change {
-        path: "d/contents.csv",
-        text: "commodity,nutrient,per_100g\nrice,energy,1e3\n",
-    };
-    let unknown = Change {
-        path: "d/contents.csv",
-        text: "commodity,nutrient,per_100g\nmaize,energy,360\n",
-    };
-    let duplicate = "refused commodities.csv record 2: Duplicate\n";
-    expect_refused(&rt, &planned(alloc, &[number, twice])?, duplicate);
-    let line = "refused contents.csv record 1 column per_100g: BadNumber\n";
-    expect_refused(&rt, &planned(alloc, &[number])?, line);
-    let line = "refused contents.csv record 1 column commodity: UnknownName\n";
-    expect_refused(&rt, &planned(alloc, &[unknown])?, line);
-    Ok(())
-}
-
-#[test]
-fn refuses_files_that_are_not_there(rt: HostRuntime) -> Result<(), Fail> {
-    let alloc = rt.alloc();
-    let mut shelf = SureShelf::new(alloc);
-    shelf.load("d/settings.toml", SETTINGS.as_bytes())?;
-    shelf.load("d/commodities.csv", COMMODITIES.as_bytes())?;
-    shelf.load("d/nutrients.csv", NUTRIENTS.as_bytes())?;
-    let mut out = SureSink::new(alloc);
-    let mut err = SureSink::new(alloc);
-    let words = words_of(alloc, &["plan", "d"])?;
-    assert_eq!(rt; optimus(alloc, &words, &mut shelf, &mut out, &mut err), 3);
-    assert_eq!(rt;
-        err.written(),
-        b"refused contents.csv: MissingFile\n".as_slice()
-    );
-    let mut err = SureSink::new(alloc);
-    let words = words_of(alloc, &["plan", "e"])?;
-    assert_eq!(rt; optimus(alloc, &words, &mut shelf, &mut out, &mut err), 3);
-    assert_eq!(rt;
-        err.written(),
-        b"refused settings.toml: MissingFile\n".as_slice()
-    );
-    assert_eq!(rt; out.written(), b"".as_slice());
-    Ok(())
-}
-
-/// Words that are no form are refused, and nothing else happens.
-fn expect_no_form(rt: &impl Abort, alloc: Global, words: &[&str]) -> Result<(), OutOfMemory> {
-    let mut shelf = basket(alloc)?;
-    let mut out = SureSink::new(alloc);
-    let mut err = SureSink::new(alloc);
+/// What the program answers to these words over a shelf.
+fn answer_to(alloc: Global, shelf: &mut SureShelf, words: &[&str]) -> Result<Answer, OutOfMemory> {
     let words = words_of(alloc, words)?;
-    assert_eq!(rt; optimus(alloc, &words, &mut shelf, &mut out, &mut err), 3);
-    assert_eq!(rt; err.written(), b"refused words\n".as_slice());
-    assert_eq!(rt; out.written(), b"".as_slice());
-    Ok(())
-}
-
-#[test]
-fn refuses_words_that_are_no_form(rt: HostRuntime) -> Result<(), Fail> {
-    let alloc = rt.alloc();
-    expect_no_form(&rt, alloc, &[])?;
-    expect_no_form(&rt, alloc, &["plan"])?;
-    expect_no_form(&rt, alloc, &["plan", "d", "e"])?;
-    expect_no_form(&rt, alloc, &["plan", "-d"])?;
-    expect_no_form(&rt, alloc, &["plan", ""])?;
-    expect_no_form(&rt, alloc, &["plant", "d"])?;
-    Ok(())
-}
-
-/// The call of this number fails: status 4, and nothing is printed.
-fn expect_fault(rt: &impl Abort, alloc: Global, call: u64) -> Result<(), OutOfMemory> {
-    let mut shelf = failing_basket(alloc, &[call])?;
     let mut out = SureSink::new(alloc);
     let mut err = SureSink::new(alloc);
-    let words = words_of(alloc, &["plan", "d"])?;
-    assert_eq!(rt; optimus(alloc, &words, &mut shelf, &mut out, &mut err), 4);
-    assert_eq!(rt; shelf.faults(), 1);
-    assert_eq!(rt; out.written(), b"".as_slice());
-    assert_eq!(rt; err.written(), b"".as_slice());
-    assert!(rt; shelf.held("d/plan.csv").is_none());
+    let status = optimus(alloc, &words, shelf, &mut out, &mut err);
+    Ok(Answer { status, out, err })
+}
+
+/// A command on the folder `d`, the status with which it ends, and its lines: those of a refusal are on `err`.
+#[derive(Clone, Copy)]
+struct Step<'a>(&'a str, u8, &'a str);
+
+fn expect_lines(rt: &impl Abort, answer: &Answer, lines: &str) {
+    if answer.status == 3 {
+        assert_eq!(rt; answer.err.written(), lines.as_bytes());
+        assert_eq!(rt; answer.out.written(), b"".as_slice());
+    } else {
+        assert_eq!(rt; answer.out.written(), lines.as_bytes());
+        assert_eq!(rt; answer.err.written(), b"".as_slice());
+    }
+}
+
+/// A command over a shelf ends so.
+fn expect_step(
+    rt: &impl Abort,
+    alloc: Global,
+    shelf: &mut SureShelf,
+    step: &Step<'_>,
+) -> Result<(), OutOfMemory> {
+    let answer = answer_to(alloc, shelf, &[step.0, "d"])?;
+    assert_eq!(rt; answer.status, step.1);
+    expect_lines(rt, &answer, step.2);
     Ok(())
 }
 
-#[test]
-fn answers_each_fault_of_the_shelf(rt: HostRuntime) -> Result<(), Fail> {
-    // Calls 1 to 12 get the model, call 13 puts the plan file.
-    for call in 1..14 {
-        expect_fault(&rt, rt.alloc(), call)?;
+fn expect_steps(
+    rt: &impl Abort,
+    alloc: Global,
+    shelf: &mut SureShelf,
+    steps: &[Step<'_>],
+) -> Result<(), OutOfMemory> {
+    for step in steps {
+        expect_step(rt, alloc, shelf, step)?;
     }
     Ok(())
 }
 
-#[test]
-fn answers_faults_of_the_sinks(rt: HostRuntime) -> Result<(), Fail> {
-    let alloc = rt.alloc();
-    let mut shelf = basket(alloc)?;
-    let mut out = MemSink::new(alloc, &[1])?;
-    let mut err = SureSink::new(alloc);
-    let words = words_of(alloc, &["plan", "d"])?;
-    assert_eq!(rt; optimus(alloc, &words, &mut shelf, &mut out, &mut err), 4);
-    assert_eq!(rt; out.faults(), 1);
-    assert_eq!(rt;
-        shelf.held("d/plan.csv").unwrap_or(b"missing"),
-        PLAN.as_bytes()
-    );
-    let mut out = SureSink::new(alloc);
-    let mut err = MemSink::new(alloc, &[1])?;
-    let words = words_of(alloc, &["plan"])?;
-    assert_eq!(rt; optimus(alloc, &words, &mut shelf, &mut out, &mut err), 4);
-    assert_eq!(rt; err.faults(), 1);
+/// The shelf holds these files, or nothing where they are missing.
+fn expect_held(rt: &impl Abort, shelf: &SureShelf, files: &[Held<'_>]) {
+    for file in files {
+        assert_eq!(rt;
+            shelf.held(file.0).unwrap_or(MISSING.as_bytes()),
+            file.1.as_bytes()
+        );
+    }
+}
+
+/// Commands one after another over a folder with changes, and what some files hold in the end.
+#[derive(Clone, Copy)]
+struct Case<'a> {
+    held: &'a [Held<'a>],
+    changes: &'a [Held<'a>],
+    steps: &'a [Step<'a>],
+    files: &'a [Held<'a>],
+}
+
+fn expect_case(rt: &impl Abort, alloc: Global, case: &Case<'_>) -> Result<(), OutOfMemory> {
+    let mut shelf = shelf_of(alloc, case.held, case.changes)?;
+    expect_steps(rt, alloc, &mut shelf, case.steps)?;
+    expect_held(rt, &shelf, case.files);
+    Ok(())
+}
+
+fn expect_cases(rt: &impl Abort, alloc: Global, cases: &[Case<'_>]) -> Result<(), OutOfMemory> {
+    for case in cases {
+        expect_case(rt, alloc, case)?;
+    }
     Ok(())
 }

@@ -1,31 +1,20 @@
 //! The top call: which command the words ask for.
-ghost use Rattle.std.specs.Prelude.{◌≡◌, ◌⊎◌, List, ℕ, None, Some, map, string_bytes, IfOk, option_map};
-ghost use Rattle.opt_base.specs.Outside.{Files as Held};
+ghost use Rattle.std.specs.Prelude.{◌≡◌, ◌≤◌, map, string_bytes, IfOk, option_map};
 ghost use Rattle.opt_reply.specs.Delivery.{standing, faults, Delivers};
-ghost use Rattle.optimus.specs.Plan.{answer_of, model_in, DeliversSome, Planned, RefusedModel};
-ghost use Rattle.optimus.specs.Words.{is_folder, folder_of, refused_words};
+ghost use Rattle.opt_reply.specs.Runs.{Runs};
+ghost use Rattle.optimus.specs.Words.{is_folder, form_of, refused_words, CommandAnswers, WordsAnswers};
 
-use crate::command::run_plan;
+use crate::auditing::run_audit;
+use crate::checking::run_check;
+use crate::command::{Command, command_named};
+use crate::planning::run_plan;
+use crate::reply::refusal_reply;
+use crate::reporting::run_report;
 use opt_base::{OutOfMemory, Shelf, Sink};
 use opt_reply::{MEMORY, Reply, deliver};
 use std::alloc::Global;
 
-/// The folder of the form `plan FOLDER`, where the words are that form: a folder's name is not empty and does not begin
-/// with a dash.
-fn folder_of_plan(words: &[String]) -> Option<&str>
-    ensures { option_map (λ folder. folder.now) result ≡ folder_of (map string_bytes words.now) }
-{
-    let [name, folder] = words else {
-        return None;
-    };
-    if name.as_str() == "plan" && is_folder(folder.as_str()) {
-        Some(folder.as_str())
-    } else {
-        None
-    }
-}
-
-/// Whether a word can name a folder.
+/// Whether a word can name a folder: it is not empty and does not begin with a dash.
 fn is_folder(word: &str) -> bool
     ensures { result ≡ is_folder word.now }
 {
@@ -35,13 +24,18 @@ fn is_folder(word: &str) -> bool
     }
 }
 
-/// The answer to words that are no form.
-fn reply_to_words(alloc: Global) -> Result<Reply, OutOfMemory>
-    ensures { IfOk result (λ reply. reply ≡ refused_words) }
+/// The command and the folder that the words name, where they are a form of the program.
+fn form_of(words: &[String]) -> Option<(Command, &str)>
+    ensures { option_map (λ form. (form.0, form.1.now)) result ≡ form_of (map string_bytes words.now) }
 {
-    let mut reply = Reply::new(alloc, 3);
-    reply.refuse(b"refused words\n")?;
-    Ok(reply)
+    let [name, folder] = words else {
+        return None;
+    };
+    if !is_folder(folder.as_str()) {
+        return None;
+    }
+    let command = command_named(name.as_str())?;
+    Some((command, folder.as_str()))
 }
 
 /// Refuses words that are no form.
@@ -51,22 +45,44 @@ fn refuse_words<S: Shelf, O: Sink, E: Sink>(
     out: &mut O,
     err: &mut E,
 ) -> u8
-    ensures { Delivers refused_words result
+    ensures runs { Runs (λ answer. answer ≡ refused_words) result
         (standing (S.files shelf.old) (O.stream out.old) (E.stream err.old))
         (standing (S.files shelf.new) (O.stream out.new) (E.stream err.new))
         (faults (S.count shelf.old) (O.count out.old) (E.count err.old))
         (faults (S.count shelf.new) (O.count out.new) (E.count err.new)) }
 {
-    match reply_to_words(alloc) {
+    match refusal_reply(alloc, b"refused words\n") {
         Ok(reply) => deliver(&reply, shelf, out, err),
         Err(OutOfMemory) => MEMORY,
     }
 }
 
-/// Does what the words ask for: `plan FOLDER`. Other words are refused with status 3.
-///
-/// The status is 0 where a plan was found, 2 where the search stopped without one that is good enough, 3 where the
-/// words or the model are refused, 4 only where the outside failed, 5 where memory ran out.
+/// Runs a command on a folder.
+fn run<S: Shelf, O: Sink, E: Sink>(
+    alloc: Global,
+    command: Command,
+    folder: &str,
+    shelf: &mut S,
+    out: &mut O,
+    err: &mut E,
+) -> u8
+    ensures runs { Runs (CommandAnswers (S.files shelf.old) command folder.now) result
+        (standing (S.files shelf.old) (O.stream out.old) (E.stream err.old))
+        (standing (S.files shelf.new) (O.stream out.new) (E.stream err.new))
+        (faults (S.count shelf.old) (O.count out.old) (E.count err.old))
+        (faults (S.count shelf.new) (O.count out.new) (E.count err.new)) }
+{
+    match command {
+        Command::Plan => run_plan(alloc, folder, shelf, out, err),
+        Command::Check => run_check(alloc, folder, shelf, out, err),
+        Command::Audit => run_audit(alloc, folder, shelf, out, err),
+        Command::Report => run_report(alloc, folder, shelf, out, err),
+    }
+}
+
+/// Does what the words ask for: `plan FOLDER`, `check FOLDER`, `audit FOLDER` or `report FOLDER`, as `run_plan`,
+/// `run_check`, `run_audit` and `run_report` do it. A folder's name is not empty and does not begin with a dash.
+/// Other words are refused with status 3 and `refused words` on `err`.
 pub fn optimus<S: Shelf, O: Sink, E: Sink>(
     alloc: Global,
     words: &[String],
@@ -74,41 +90,14 @@ pub fn optimus<S: Shelf, O: Sink, E: Sink>(
     out: &mut O,
     err: &mut E,
 ) -> u8
-    // Words that are no form are refused.
-    ensures words { folder_of (map string_bytes words.now) ≡ None → Delivers refused_words result
-        (standing (S.files shelf.old) (O.stream out.old) (E.stream err.old))
-        (standing (S.files shelf.new) (O.stream out.new) (E.stream err.new))
-        (faults (S.count shelf.old) (O.count out.old) (E.count err.old))
-        (faults (S.count shelf.new) (O.count out.new) (E.count err.new)) }
-
-    // Else it is what `run_plan` says of the folder.
-    ensures planned { (folder : List ℕ) → folder_of (map string_bytes words.now) ≡ Some folder
-        → (held : Held) → S.files shelf.old ≡ Some held
-        → (result ≡ 0) ⊎ (result ≡ 2) → Planned held folder result
-        (standing (S.files shelf.old) (O.stream out.old) (E.stream err.old))
-        (standing (S.files shelf.new) (O.stream out.new) (E.stream err.new)) }
-    ensures refused { (folder : List ℕ) → folder_of (map string_bytes words.now) ≡ Some folder
-        → (held : Held) → S.files shelf.old ≡ Some held
-        → result ≡ 3 → RefusedModel held folder
-        (standing (S.files shelf.old) (O.stream out.old) (E.stream err.old))
-        (standing (S.files shelf.new) (O.stream out.new) (E.stream err.new)) }
-    ensures told { (folder : List ℕ) → folder_of (map string_bytes words.now) ≡ Some folder
-        → (held : Held) → S.files shelf.old ≡ Some held
-        → Delivers (answer_of folder (model_in held folder)) result
-        (standing (S.files shelf.old) (O.stream out.old) (E.stream err.old))
-        (standing (S.files shelf.new) (O.stream out.new) (E.stream err.new))
-        (faults (S.count shelf.old) (O.count out.old) (E.count err.old))
-        (faults (S.count shelf.new) (O.count out.new) (E.count err.new)) }
-
-    // The same of some answer, also where the shelf tells nothing.
-    ensures always { DeliversSome result
+    ensures runs { Runs (WordsAnswers (S.files shelf.old) (map string_bytes words.now)) result
         (standing (S.files shelf.old) (O.stream out.old) (E.stream err.old))
         (standing (S.files shelf.new) (O.stream out.new) (E.stream err.new))
         (faults (S.count shelf.old) (O.count out.old) (E.count err.old))
         (faults (S.count shelf.new) (O.count out.new) (E.count err.new)) }
 {
-    match folder_of_plan(words) {
-        Some(folder) => run_plan(alloc, folder, shelf, out, err),
+    match form_of(words) {
+        Some((command, folder)) => run(alloc, command, folder, shelf, out, err),
         None => refuse_words(alloc, shelf, out, err),
     }
 }

@@ -1,6 +1,7 @@
-use super::network::{is_planned, is_refused};
-use super::{Change, SETTINGS};
+use super::{BASKET, Held, LINE, LINE_PLAN, Step, expect_step, shelf_of};
+use opt_base::OutOfMemory;
 use std::alloc::{AllocError, Global};
+use std::process::Abort;
 use std::test::Fail;
 
 /// A table of commodities with so many records, each of 0 g or 10 g.
@@ -13,85 +14,75 @@ fn commodities(alloc: Global, count: u32) -> Result<String, AllocError> {
     Ok(text)
 }
 
-/// A table of nutrients with so many records, none of which is needed.
-fn nutrients(alloc: Global, count: u32) -> Result<String, AllocError> {
-    let mut text = "nutrient,required,max_short,weight\n".to_string(alloc)?;
-    for number in 0..count {
-        let record = format!(in alloc; "n{number},0,0,0\n")?;
-        text.push_str(record.as_str())?;
-    }
-    Ok(text)
-}
+/// A basket without needs.
+const NO_NEEDS: [Held<'static>; 2] = [
+    Held("d/nutrients.csv", "nutrient,required,max_short,weight\n"),
+    Held("d/contents.csv", "commodity,nutrient,per_100g\n"),
+];
 
-/// Adds a record of contents for a commodity and each of so many nutrients.
-fn add_contents(
+/// Plans baskets of so many commodities.
+fn expect_many(
+    rt: &impl Abort,
     alloc: Global,
-    text: &mut String,
-    commodity: u32,
     count: u32,
-) -> Result<(), AllocError> {
-    for number in 0..count {
-        let record = format!(in alloc; "c{commodity},n{number},1\n")?;
-        text.push_str(record.as_str())?;
-    }
-    Ok(())
-}
-
-const HEADER_OF_CONTENTS: &str = "commodity,nutrient,per_100g\n";
-
-/// The files of a basket.
-fn basket_of<'a>(commodities: &'a str, nutrients: &'a str, contents: &'a str) -> [Change<'a>; 4] {
-    [
-        Change {
-            path: "d/settings.toml",
-            text: SETTINGS,
-        },
-        Change {
-            path: "d/commodities.csv",
-            text: commodities,
-        },
-        Change {
-            path: "d/nutrients.csv",
-            text: nutrients,
-        },
-        Change {
-            path: "d/contents.csv",
-            text: contents,
-        },
-    ]
+    step: &Step<'_>,
+) -> Result<(), OutOfMemory> {
+    let table = commodities(alloc, count)?;
+    let mut shelf = shelf_of(alloc, &BASKET, &NO_NEEDS)?;
+    shelf.load("d/commodities.csv", table.as_bytes())?;
+    expect_step(rt, alloc, &mut shelf, step)
 }
 
 #[test]
-fn models_have_at_most_20_000_quantities(rt: HostRuntime) -> Result<(), Fail> {
-    let alloc = rt.alloc();
-    let no_nutrient = nutrients(alloc, 0)?;
-    let most = commodities(alloc, 20_000)?;
-    let basket = basket_of(most.as_str(), no_nutrient.as_str(), HEADER_OF_CONTENTS);
-    assert!(rt; is_planned(alloc, &basket, &[], "plan 0 bound 0 gap 0 nodes 1\n")?);
-    let more = commodities(alloc, 20_001)?;
-    let basket = basket_of(more.as_str(), no_nutrient.as_str(), HEADER_OF_CONTENTS);
-    let line = "refused model column quantities: TooMany 20001\n";
-    assert!(rt; is_refused(alloc, &basket, &[], line)?);
-    // Shortfalls are counted too.
-    let nutrient = nutrients(alloc, 1)?;
-    let basket = basket_of(most.as_str(), nutrient.as_str(), HEADER_OF_CONTENTS);
-    assert!(rt; is_refused(alloc, &basket, &[], line)?);
+fn a_model_has_at_most_20_000_quantities(rt: HostRuntime) -> Result<(), Fail> {
+    let most = Step("plan", 0, "plan 0 bound 0 gap 0 nodes 1\n");
+    expect_many(&rt, rt.alloc(), 20_000, &most)?;
+    let more = Step(
+        "plan",
+        3,
+        "refused model column quantities: TooMany 20001\n",
+    );
+    expect_many(&rt, rt.alloc(), 20_001, &more)?;
+    Ok(())
+}
+
+/// A text with spaces behind it, of this length.
+fn padded(alloc: Global, text: &str, length: usize) -> Result<String, AllocError> {
+    let mut padded = text.to_string(alloc)?;
+    for _ in text.len()..length {
+        padded.push(' ')?;
+    }
+    Ok(padded)
+}
+
+/// A command on the line with one more file of this length.
+fn expect_padded(
+    rt: &impl Abort,
+    alloc: Global,
+    file: &Held<'_>,
+    length: usize,
+    step: &Step<'_>,
+) -> Result<(), OutOfMemory> {
+    let text = padded(alloc, file.1, length)?;
+    let mut shelf = shelf_of(alloc, &LINE, &[])?;
+    shelf.load(file.0, text.as_bytes())?;
+    expect_step(rt, alloc, &mut shelf, step)
+}
+
+#[test]
+fn a_plan_file_has_at_most_16_777_216_bytes(rt: HostRuntime) -> Result<(), Fail> {
+    let plan = Held("d/plan.csv", LINE_PLAN);
+    let more = Step("audit", 3, "refused plan.csv: FileTooBig\n");
+    expect_padded(&rt, rt.alloc(), &plan, 16_777_217, &more)?;
     Ok(())
 }
 
 #[test]
-fn models_have_at_most_262_144_terms(rt: HostRuntime) -> Result<(), Fail> {
-    // 511 commodities with 512 nutrients each are 261,632 terms, the shortfalls 512 more. One content is too many.
-    let alloc = rt.alloc();
-    let mut contents = HEADER_OF_CONTENTS.to_string(alloc)?;
-    for commodity in 0..511 {
-        add_contents(alloc, &mut contents, commodity, 512)?;
-    }
-    add_contents(alloc, &mut contents, 511, 1)?;
-    let commodities = commodities(alloc, 512)?;
-    let nutrients = nutrients(alloc, 512)?;
-    let basket = basket_of(commodities.as_str(), nutrients.as_str(), contents.as_str());
-    let line = "refused model column terms: TooMany 262145\n";
-    assert!(rt; is_refused(alloc, &basket, &[], line)?);
+fn settings_have_at_most_65_536_bytes(rt: HostRuntime) -> Result<(), Fail> {
+    let settings = LINE[0];
+    let most = Step("audit", 3, "refused plan.csv: MissingFile\n");
+    expect_padded(&rt, rt.alloc(), &settings, 65_536, &most)?;
+    let more = Step("audit", 3, "refused settings.toml: FileTooBig\n");
+    expect_padded(&rt, rt.alloc(), &settings, 65_537, &more)?;
     Ok(())
 }
