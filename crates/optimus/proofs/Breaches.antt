@@ -118,13 +118,14 @@ module _ {E : Type 0} (t : Tables) (s : System) (x : List ℤ) (is : s ≡ own_s
   feasible_breaches (Err e) speaks within h = tt
 
 -- ---- what is answered to the rows that are found
-module _ {E : Type 0} (t : Tables) (plan : Plan) (broken : List (ℕ × ℤ)) (are : broken ≡ breaches_of t plan) (feasible : (broken ≡ []) ↔ Feasible t plan) where
-  same_audit : printed_answer (status_with broken) (audit_text t broken) ≡ audit_answer t plan
-  same_audit = ap (λ (b : List (ℕ × ℤ)). printed_answer (status_with b) (audit_text t b)) are
+same_audit : (t : Tables) (plan : Plan) (broken : List (ℕ × ℤ)) → broken ≡ breaches_of t plan
+    → printed_answer (status_with broken) (audit_text t broken) ≡ audit_answer t plan
+same_audit t plan broken are = ap (λ (b : List (ℕ × ℤ)). printed_answer (status_with b) (audit_text t b)) are
 
+module _ {E : Type 0} (t : Tables) (plan : Plan) (broken : List (ℕ × ℤ)) (are : broken ≡ breaches_of t plan) (feasible : (broken ≡ []) ↔ Feasible t plan) where
   pub audits_plan : (r : Result Answer E) → IfOk r (λ answer. answer ≡ printed_answer (status_with broken) (audit_text t broken)) → IfOk r (AuditsPlan t plan)
   audits_plan (Ok answer) same = record {
-    answer_is = same ∙ same_audit;
+    answer_is = same ∙ same_audit t plan broken are;
     feasible = subst (λ (a : Answer). (a.status ≡ 0) ↔ Feasible t plan) (sym same) (status_feasible broken feasible);
   }
   audits_plan (Err e) same = tt
@@ -148,7 +149,7 @@ module _ {E : Type 0} (t : Tables) (plan : Plan) (broken : List (ℕ × ℤ)) (a
   -- a row is broken
   pub reports_broken : (folder : List ℕ) (r : Result Answer E) → broken ≢ [] → IfOk r (λ answer. answer ≡ printed_answer (status_with broken) (audit_text t broken)) → IfOk r (ReportsPlan folder t plan)
   reports_broken folder (Ok answer) some same = record {
-    answer_is = same ∙ (same_audit ∙ (some_broken broken some ∙ ap (unless_broken folder t plan) are));
+    answer_is = same ∙ (same_audit t plan broken are ∙ (some_broken broken some ∙ ap (unless_broken folder t plan) are));
     feasible = subst (λ (a : Answer). (a.status ≡ 0) ↔ Feasible t plan) (sym same) (status_feasible broken feasible);
   }
     where
