@@ -1,5 +1,5 @@
 -- What was got of a folder is that of its own files, where they are told, and else of some files.
-use Rattle.std.proofs.Common.{◌≡◌, ◌≢◌, ◌⊎◌, inl, inr, ℕ, zero, suc, ◌+◌, ◌<◌, ◌≤◌, Bool, true, false, cond, nat_le, List, [], ◌∷◌, length, replicate, Option, Some, None, Result, Ok, Err, All, Contains, refl, sym, ◌∙◌, ap, subst, arith}
+use Rattle.std.proofs.Common.{◌≡◌, ◌≢◌, inl, inr, ℕ, ◌+◌, ◌<◌, ◌≤◌, Bool, true, false, cond, nat_le, List, [], length, replicate, Option, Some, None, Result, Ok, Err, All, refl, sym, ◌∙◌, ap, subst, arith}
 use Rattle.std.specs.Prelude.{IfOk}
 use Rattle.std.proofs.lemmas.List.{length-replicate}
 use Rattle.std.proofs.lemmas.List.Elements.{All-from_recursion, All-contains}
@@ -18,8 +18,8 @@ use Rattle.opt_base.specs.declared.refusal.ModelFault.TheVariants as reading
 use Rattle.opt_base.specs.declared.refusal.Refusal.{Refusal}
 use Rattle.opt_model.specs.Tables.{Tables}
 use Rattle.opt_plan.specs.Models.{model_of}
-use Rattle.opt_tables.specs.Files.{ModelFiles, model_files, with_file, is_required, limit_of, admitted, checked, all_checked, files_in, fetch_of, path_of}
-use Rattle.opt_tables.specs.Fetched.{IsOfFile, IsGot, Fetched, RefusesOne}
+use Rattle.opt_tables.specs.Files.{ModelFiles, model_files, with_file, is_required, limit_of, checked, all_checked, files_in, fetch_of, path_of}
+use Rattle.opt_tables.specs.Fetched.{IsOfFile, IsGot, RefusesOne}
 use Rattle.opt_tables.specs.Model.{tables_of}
 use Rattle.opt_tables.specs.declared.fault.FetchFault.{FetchFault}
 use Rattle.opt_tables.specs.declared.fault.FetchFault.TheVariants.{Refused, Outside, OutOfMemory}

@@ -1,11 +1,11 @@
 -- The text of a planned certificate is within the limit of those that are read.
-use Rattle.std.proofs.Common.{◌≡◌, ℕ, zero, suc, ◌+◌, ◌*◌, ◌/◌, ◌^◌, ◌<◌, ◌≤◌, max, true, List, [], ◌∷◌, ◌++◌, length, get_or, map, All, Option, Some, None, Result, Ok, Err, ℤ, pos, negsuc, unsigned_abs, refl, ap, sym, ◌∙◌, subst, arith, length-append}
-use Rattle.std.specs.List.{flat_map, join_with_byte, AllByRecursion, enumerate_from}
+use Rattle.std.proofs.Common.{◌≡◌, ℕ, zero, suc, ◌+◌, ◌*◌, ◌^◌, ◌<◌, ◌≤◌, true, List, [], ◌∷◌, ◌++◌, length, get_or, map, All, Option, Some, None, Result, Ok, ℤ, pos, negsuc, unsigned_abs, refl, ap, ◌∙◌, arith, length-append}
+use Rattle.std.specs.List.{join_with_byte, AllByRecursion}
 use Rattle.std.specs.Fmt.{decimal, signed_decimal}
 use Rattle.std.specs.Prelude.{codes, is_none}
 use Rattle.std.proofs.lemmas.Fmt.{length-decimal-le_wide}
 use Rattle.std.proofs.lemmas.Int.{ints}
-use Rattle.std.proofs.Math.Nat.{mul-add, mul-one, mul_comm, mul-le-mul, div-mul-le_self}
+use Rattle.std.proofs.Math.Nat.{mul-add, mul-one}
 use Rattle.std.proofs.lemmas.List.{map-append}
 use Rattle.std.proofs.lemmas.List.Concat.{flat_map-append}
 use Rattle.std.proofs.lemmas.List.Elements.{recursion_from_All}
@@ -22,13 +22,13 @@ use Rattle.opt_bound.specs.declared.fault.EntryFault.{EntryFault}
 use Rattle.opt_bound.proofs.FaultLemmas.{admissible_of}
 use Rattle.opt_tree.specs.declared.check_fault.CheckFault.{CheckFault}
 use Rattle.opt_tree.specs.declared.check_fault.CheckFault.TheVariants.{RootLine}
-use Rattle.opt_tree.specs.Certificates.{Certificate, IsInRange, HasRanges, AreWritable, AreEntries, HasEntries, HasNodes, IsCertificate}
-use Rattle.opt_tree.specs.Shown.{Known, Seen, nothing_seen, leaf_at, with_split, judge_leaf, unless_wrong, root_bound_of, look_root, look_point, look_leaf, look_cut, look, conclude, known_of, shown}
+use Rattle.opt_tree.specs.Certificates.{Certificate, IsInRange, HasRanges, AreWritable, HasEntries, HasNodes, IsCertificate}
+use Rattle.opt_tree.specs.Shown.{Known, Seen, nothing_seen, leaf_at, judge_leaf, unless_wrong, root_bound_of, look_root, look_point, look_cut, look, conclude, known_of, shown}
 use Rattle.opt_tree.specs.Trees.{BoxTree, leaf, split, node_count, leaf_count, preorder}
 use Rattle.opt_tree.proofs.Steps.{then_ok, then_if}
 use Rattle.opt_cert.specs.declared.cert_line.CertLine.{CertLine}
 use Rattle.opt_cert.specs.declared.cert_line.CertLine.TheVariants as line
-use Rattle.opt_cert.specs.Texts.{entry_text, entries_words, multipliers_words, verdict_words, best_word, point_words, words_of, line_text, node_line, lines_of, text_of_lines, certificate_text}
+use Rattle.opt_cert.specs.Texts.{entry_text, entries_words, multipliers_words, verdict_words, point_words, words_of, line_text, node_line, text_of_lines, certificate_text}
 
 -- ---- numbers
 short_number : (n : ℕ) → n < 10 ^ 19 → length (decimal n) ≤ 19

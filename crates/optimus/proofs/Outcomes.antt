@@ -1,5 +1,5 @@
 -- The outcome of a plan can be given, and its certificate is checked with the same answer.
-use Rattle.std.proofs.Common.{◌≡◌, inl, inr, ℕ, ◌≤◌, ◌^◌, List, [], ◌∷◌, ◌++◌, length, append_assoc, Option, Some, None, Result, Ok, Err, ℤ, pos, negsuc, ◌≤ℤ◌, ◌-ℤ◌, refl, ap, sym, ◌∙◌, subst, arith}
+use Rattle.std.proofs.Common.{◌≡◌, inl, inr, ℕ, ◌≤◌, List, [], ◌∷◌, ◌++◌, length, append_assoc, Option, Some, None, Result, Ok, Err, ℤ, pos, negsuc, ◌≤ℤ◌, refl, ap, sym, ◌∙◌, subst, arith}
 use Rattle.std.specs.Prelude.{IfOk, IfSome}
 use Rattle.std.proofs.lemmas.Int.{ints}
 use Rattle.opt_base.specs.declared.refusal.File.TheVariants as file
@@ -23,14 +23,14 @@ use Rattle.opt_system.specs.Ranges.{IsWithin}
 use Rattle.opt_system.specs.Systems.{System, Meets}
 use Rattle.opt_tables.specs.Files.{path_of}
 use Rattle.opt_tree.specs.declared.outcome.Outcome.{Outcome}
-use Rattle.opt_tree.specs.Certificates.{Certificate, IsInRange, HasRanges}
+use Rattle.opt_tree.specs.Certificates.{IsInRange, HasRanges}
 use Rattle.opt_tree.specs.Outcomes.{outcome_certificate}
 use Rattle.opt_tree.specs.Trees.{node_count}
 use Rattle.opt_tree.specs.Nodes.{tree_of}
 use Rattle.opt_cert.specs.Texts.{certificate_text}
 use Rattle.opt_cert.specs.Wholes.{IsTextOf}
 use Rattle.optimus.specs.Answers.{printed_answer}
-use Rattle.optimus.specs.Checking.{shown_answer, shown_of, RefusesText, JudgesText, ChecksText}
+use Rattle.optimus.specs.Checking.{shown_answer, ChecksText}
 use Rattle.optimus.specs.Planning.{FollowsDives, IsReadable, IsRepeated, PlansModel}
 use Rattle.optimus.specs.Verdicts.{status_of, nodes_of, plan_file_of, summary_path, with_put, with_outcome, outcome_answer}
 

@@ -1,5 +1,5 @@
 -- The certificate of an outcome is within the limit of those that are read.
-use Rattle.std.proofs.Common.{◌≡◌, ℕ, ◌+◌, ◌*◌, ◌/◌, ◌^◌, ◌≤◌, min, max, Bool, not, ◌==◌, List, length, Option, Some, None, option_map, Result, Ok, Err, ℤ, unsigned_abs, refl, ap, sym, ◌∙◌, subst, arith}
+use Rattle.std.proofs.Common.{◌≡◌, ℕ, ◌+◌, ◌*◌, ◌/◌, ◌^◌, ◌≤◌, min, max, Bool, not, ◌==◌, List, length, Option, Some, None, option_map, Result, Ok, Err, ℤ, unsigned_abs, sym, subst, arith}
 use Rattle.std.specs.Prelude.{IfOk, IfSome}
 use Rattle.std.specs.List.{enumerate_from}
 use Rattle.std.proofs.lemmas.List.{length-map}

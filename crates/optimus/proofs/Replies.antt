@@ -7,7 +7,6 @@ use Rattle.opt_base.specs.declared.refusal.Refusal.{Refusal}
 use Rattle.opt_model.specs.Tables.{Tables}
 use Rattle.opt_model.specs.Plans.{Plan, plan_of}
 use Rattle.opt_model.specs.Quantities.{quantities}
-use Rattle.opt_model.specs.Texts.{refusal_line}
 use Rattle.opt_reply.specs.declared.TheConstants.{OUTSIDE, MEMORY}
 use Rattle.opt_reply.specs.Answer.{Answer}
 use Rattle.opt_reply.specs.Delivery.{Standing, Faults, standing, faults, SomeRose, NoneFell, Delivers}
@@ -18,7 +17,7 @@ use Rattle.opt_tables.specs.declared.fault.FetchFault.TheVariants as fetch
 use Rattle.optimus.specs.declared.reply.CommandFault.{CommandFault}
 use Rattle.optimus.specs.declared.reply.CommandFault.TheVariants.{Outside, OutOfMemory}
 use Rattle.optimus.specs.Folder.{Brings, IsModelIn, IsFileIn}
-use Rattle.optimus.specs.Answers.{refused_answer, AnswersTo, AnswersModel, AnswersFile, RepliesTo, GivesNothing, Given}
+use Rattle.optimus.specs.Answers.{AnswersTo, AnswersModel, AnswersFile, RepliesTo, GivesNothing, Given}
 use Rattle.optimus.specs.Auditing.{IsPlanIn, AnswersPlan}
 use Rattle.optimus.specs.declared.command.Command.{Command}
 use Rattle.optimus.specs.Words.{form_of, FormAnswers, WordsAnswers}
@@ -77,6 +76,13 @@ cause_of_fault fault result before now replies cause = record {
   later = cause.later;
   cause = λ is. cause.cause (ap Err (outside_fault fault result replies is));
 }
+
+-- an answer is no fault, so the outside has no part in it
+not_outside : (answer : Answer) → IsErrOf (Ok answer) Outside → ⊥
+not_outside answer is = cc
+
+pub cause_of_answer : (answer : Answer) (before now : ℕ) → before ≤ now → HasCause {T = Answer} Outside before now (Ok answer)
+cause_of_answer answer before now later = record { later = later; cause = λ is. absurd (not_outside answer is) }
 
 -- ---- what is given
 -- calls that only read change the shelf's count alone

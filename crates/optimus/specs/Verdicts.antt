@@ -1,5 +1,5 @@
 -- What is given of a verdict: its status and its line; of the outcome of a plan also three files.
-use Rattle.std.specs.Prelude.{◌≡◌, ℕ, List, [], ◌∷◌, ◌++◌, length, codes, Option, Some, None, ℤ}
+use Rattle.std.specs.Prelude.{ℕ, List, [], ◌∷◌, ◌++◌, length, codes, Option, Some, None, ℤ}
 use Rattle.opt_base.specs.declared.refusal.File.TheVariants as file
 use Rattle.opt_base.specs.declared.verdict.Verdict.{Verdict}
 use Rattle.opt_base.specs.declared.verdict.Verdict.TheVariants as verdict

@@ -165,8 +165,9 @@ fn a_certificate_written_by_hand_is_checked(rt: HostRuntime) -> Result<(), Fail>
     Ok(())
 }
 
-/// What is no certificate's text: the first line that cannot stand in its place is named.
-const NO_TEXTS: [Replaced<'static>; 8] = [
+/// What is no certificate's text: the first line that cannot stand in its place is named. Whether a text is one is judged
+/// before what it says.
+const NO_TEXTS: [Replaced<'static>; 9] = [
     Replaced(
         "leaf 0 1 0:1\n",
         "leaf 0 1 0:01\n",
@@ -205,6 +206,12 @@ const NO_TEXTS: [Replaced<'static>; 8] = [
     ),
     Replaced("end\n", "end\n\n", 3, "refused certificate.txt: Trailing\n"),
     Replaced("end\n", "end", 3, "refused certificate.txt: Truncated\n"),
+    Replaced(
+        "leaf 0 1 0:1\nleaf 2 3 1:1 3:900 4:1000\nend\n",
+        "leaf 0 1 0:-1\nleaf 2 3 1:1 3:900 4:1000\nend\n\n",
+        3,
+        "refused certificate.txt: Trailing\n",
+    ),
 ];
 
 #[test]

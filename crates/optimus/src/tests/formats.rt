@@ -1,4 +1,4 @@
-use super::{Case, Held, LINE, Step, expect_cases};
+use super::{Case, Held, LINE, LINE_CERTIFICATE, LINE_VERDICT, Step, expect_cases};
 use std::test::Fail;
 
 const TWO_BASKET_SETTINGS: Held<'static> = Held(
@@ -138,6 +138,61 @@ const ONE_BASKET_NEEDS: Held<'static> = Held(
     "d/needs.csv",
     "basket,nutrient,required,max_short,weight\nall,energy,2100,0,1\n",
 );
+
+const RAISED_PLAN: &str = "quantity,name,commodity,month,amount\nration,all,rice,1,590\n\
+    buy,o1,,1,17700\nship,a1,rice,1,17700\nfeed,P,rice,1,17700\n";
+
+/// With one basket for all, and with an offer that has no fee and no least lot, the line has the rows that it has
+/// without them, and so its certificate. What a nutrient's table says of needs is not read any more.
+const RAISED: [Case<'static>; 2] = [
+    Case {
+        held: &LINE,
+        changes: &[
+            TWO_BASKET_SETTINGS,
+            ONE_BASKET_PERSONS,
+            ONE_BASKET,
+            ONE_BASKET_NEEDS,
+        ],
+        steps: &[
+            Step("plan", 0, LINE_VERDICT),
+            Step("check", 0, LINE_VERDICT),
+            Step("audit", 0, "audit 0 broken\n"),
+        ],
+        files: &[
+            Held("d/plan.csv", RAISED_PLAN),
+            Held("d/certificate.txt", LINE_CERTIFICATE),
+        ],
+    },
+    Case {
+        held: &LINE,
+        changes: &[
+            ORDER_SETTINGS,
+            ONE_BASKET_PERSONS,
+            ONE_BASKET,
+            ONE_BASKET_NEEDS,
+            Held(
+                "d/offers.csv",
+                "offer,place,commodity,price,max_kg,first,last,fee,least\n\
+                o1,S,rice,450,20000,1,1,0,0\n",
+            ),
+        ],
+        steps: &[
+            Step("plan", 0, LINE_VERDICT),
+            Step("check", 0, LINE_VERDICT),
+            Step("audit", 0, "audit 0 broken\n"),
+        ],
+        files: &[
+            Held("d/plan.csv", RAISED_PLAN),
+            Held("d/certificate.txt", LINE_CERTIFICATE),
+        ],
+    },
+];
+
+#[test]
+fn a_line_of_later_formats_is_planned(rt: HostRuntime) -> Result<(), Fail> {
+    expect_cases(&rt, rt.alloc(), &RAISED)?;
+    Ok(())
+}
 
 /// 17,700 kg cost 8,850,000, and the fee comes on top. A least lot of 18,000 kg, which are 600 g a day, is bought
 /// whole: 9,000,000 and the fee.

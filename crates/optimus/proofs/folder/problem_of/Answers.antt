@@ -1,4 +1,3 @@
-use Rattle.std.proofs.Common.{◌≡◌}
 use Rattle.opt_model.specs.Tables.{Tables}
 use Rattle.opt_plan.specs.Models.{model_of}
 use Rattle.optimus.proofs.Folders.{fails_got, not_outside}

@@ -1,5 +1,5 @@
-use Rattle.std.proofs.Common.{◌≡◌, ◌≤◌, ℕ, length, ap, sym, ◌∙◌, subst, arith}
-use Rattle.opt_model.specs.Quantities.{quantities, rations}
+use Rattle.std.proofs.Common.{◌≡◌, ◌≤◌, length, ap, ◌∙◌, subst, arith}
+use Rattle.opt_model.specs.Quantities.{rations}
 use Rattle.opt_model.specs.Tables.{Tables}
 use Rattle.opt_network.specs.Numbering.{Numbering}
 use Rattle.opt_plan.specs.Models.{own_system}

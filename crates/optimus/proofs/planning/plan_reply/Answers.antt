@@ -1,5 +1,5 @@
 use Rattle.std.proofs.Common.{Ok}
-use Rattle.optimus.proofs.Replies.{model_answered, model_fault, small_fault, cause_of_fault}
+use Rattle.optimus.proofs.Replies.{model_fault, small_fault, cause_of_fault, cause_of_answer}
 use Rattle.optimus.proofs.planning.plan_reply.Goals as goal
 
 pub returns-in-Err-clause-answers : goal.returns-in-Err-clause-answers
@@ -15,3 +15,6 @@ returns-in-Err-clause-cause g c = cause_of_fault c.in-Err.fault c.reply_to_fault
 pub returns-in_ok-plan_model-in-Ok-clause-answers : goal.returns-in_ok-plan_model-in-Ok-clause-answers
 returns-in_ok-plan_model-in-Ok-clause-answers g c =
     record { model = Ok c.in-Ok.problem; model_is = c.in-Ok.ensures.model; answers = c.in_ok-plan_model-in-Ok.ensures.plans }
+
+pub returns-in_ok-plan_model-in-Ok-clause-cause : goal.returns-in_ok-plan_model-in-Ok-clause-cause
+returns-in_ok-plan_model-in-Ok-clause-cause g c = cause_of_answer _ _ _ c.in-Ok.ensures.cause.later
