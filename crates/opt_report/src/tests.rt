@@ -9,6 +9,7 @@ use opt_base::{File, Kind, ModelFault, OutOfMemory, Point, Refusal, SureShelf};
 use opt_network::Layout;
 use opt_tables::{Tables, fetch, read_model};
 use std::alloc::Global;
+use std::process::Abort;
 use std::test::Fail;
 
 /// The path of a model file and what it holds.
@@ -97,7 +98,13 @@ fn tables_of(alloc: Global, changes: &[Held<'_>], more: &[Held<'_>]) -> Result<T
 }
 
 /// What a plan file says of a model.
-fn read(alloc: Global, tables: &Tables, bytes: &[u8]) -> Result<Point, ModelFault> {
+fn read(
+    rt: &impl Abort,
+    alloc: Global,
+    tables: &Tables,
+    bytes: &[u8],
+) -> Result<Point, ModelFault> {
+    assert!(rt; bytes.len() < 4_294_967_296);
     let layout = Layout::new(alloc, tables)?;
     read_plan(alloc, tables, &layout, bytes)
 }

@@ -35,6 +35,7 @@ fn assert_text(
     text: &[u8],
 ) -> Result<(), Fail> {
     let layout = Layout::new(alloc, tables)?;
+    assert!(rt; text.len() < 4_294_967_296);
     let point = read_plan(alloc, tables, &layout, text)?;
     assert_eq!(rt; point.as_slice(), values);
     let written = plan_text(alloc, tables, &layout, &point)?;
@@ -86,7 +87,7 @@ fn reads_any_order_with_zeros(rt: HostRuntime) -> Result<(), Fail> {
     let tables = tables_of(alloc, &[], &[])?;
     let text =
         b"\xEF\xBB\xBFamount,note,name,month,quantity,commodity\r\n17700, , P ,01,feed,\"rice\"\r\n0,,energy,1,short,\t\r\n0590,x,rice,1,ration,\r\n";
-    let point = read(alloc, &tables, text)?;
+    let point = read(&rt, alloc, &tables, text)?;
     assert_eq!(rt; point.as_slice(), [59, 0, 0, 0, 17_700].as_slice());
     Ok(())
 }
@@ -95,7 +96,7 @@ fn reads_any_order_with_zeros(rt: HostRuntime) -> Result<(), Fail> {
 fn a_plan_without_records_is_zero(rt: HostRuntime) -> Result<(), Fail> {
     let alloc = rt.alloc();
     let tables = tables_of(alloc, &[], &[])?;
-    let point = read(alloc, &tables, b"quantity,name,commodity,month,amount")?;
+    let point = read(&rt, alloc, &tables, b"quantity,name,commodity,month,amount")?;
     assert_eq!(rt; point.as_slice(), [0; 5].as_slice());
     Ok(())
 }

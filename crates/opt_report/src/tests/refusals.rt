@@ -20,7 +20,7 @@ fn assert_refused(
         let record = case.0;
         let alone = format!(in alloc; "quantity,name,commodity,month,amount\n{record}\n")?;
         assert_eq!(rt;
-            read(alloc, tables, alone.as_bytes()).err(),
+            read(rt, alloc, tables, alone.as_bytes()).err(),
             Some(at(1, case.1, case.2)),
             "{record}"
         );
@@ -28,7 +28,7 @@ fn assert_refused(
             "quantity,name,commodity,month,amount\nbuy,o1,,1,5\n{record}\neat,,x,y,z\n"
         )?;
         assert_eq!(rt;
-            read(alloc, tables, behind.as_bytes()).err(),
+            read(rt, alloc, tables, behind.as_bytes()).err(),
             Some(at(2, case.1, case.2)),
             "{record}"
         );
@@ -157,7 +157,7 @@ fn refuses_a_second_record_of_a_quantity(rt: HostRuntime) -> Result<(), Fail> {
     let tables = tables_of(alloc, &[], &[])?;
     let text = b"quantity,name,commodity,month,amount\nbuy,o1,,1,0\nbuy,o1,,01,x\n";
     assert_eq!(rt;
-        read(alloc, &tables, text).err(),
+        read(&rt, alloc, &tables, text).err(),
         Some(at(2, 0, Kind::Duplicate))
     );
     Ok(())
@@ -202,7 +202,7 @@ fn refuses_what_a_table_is_refused_for(rt: HostRuntime) -> Result<(), Fail> {
     ];
     for case in &cases {
         assert_eq!(rt;
-            read(alloc, &tables, case.0).err(),
+            read(&rt, alloc, &tables, case.0).err(),
             Some(at(case.1, case.2, case.3))
         );
     }
@@ -221,17 +221,17 @@ fn refuses_a_quantity_that_may_not_be_0_without_a_record(rt: HostRuntime) -> Res
     let tables = tables_of(alloc, &SOME_RICE, &[])?;
     let none = b"quantity,name,commodity,month,amount\nbuy,o1,,1,5\n";
     assert_eq!(rt;
-        read(alloc, &tables, none).err(),
+        read(&rt, alloc, &tables, none).err(),
         Some(at(0, 5, Kind::OutOfRange))
     );
     let low = b"quantity,name,commodity,month,amount\nration,rice,,1,90\n";
     assert_eq!(rt;
-        read(alloc, &tables, low).err(),
+        read(&rt, alloc, &tables, low).err(),
         Some(at(1, 5, Kind::OutOfRange))
     );
     let least = b"quantity,name,commodity,month,amount\nration,rice,,1,100\n";
     assert_eq!(rt;
-        read(alloc, &tables, least)?.as_slice(),
+        read(&rt, alloc, &tables, least)?.as_slice(),
         [10, 0, 0, 0, 0].as_slice()
     );
     Ok(())
