@@ -30,6 +30,7 @@ pub fn add_multiples(
         Writes result [] sums.new.items (sums_fit first second) (merged_sum first second) }
 {
     sums.clear();
+    sums.reserve(kept.terms.len().saturating_add(added.terms.len()))?;
     let mut i = 0;
     let mut k = 0;
     while i < kept.terms.len() && k < added.terms.len() {
@@ -54,6 +55,7 @@ pub fn add_multiples(
 }
 
 /// The coefficient of term `i` times its factor.
+#[inline(always)]
 fn product_at(multiple: Multiple<'_>, i: usize) -> Option<i128>
     requires { i < length multiple.terms.now }
     ensures { let coefficient = (multiple_at multiple.entry.factor multiple.entry.terms.now i).1 in
@@ -63,6 +65,7 @@ fn product_at(multiple: Multiple<'_>, i: usize) -> Option<i128>
 }
 
 /// Pushes term `i` times its factor.
+#[inline(always)]
 fn push_term(sums: &mut Vec<(u32, i128)>, multiple: Multiple<'_>, i: usize) -> Result<(), ElimFault>
     requires { i < length multiple.terms.now }
     ensures { let term = multiple_at multiple.entry.factor multiple.entry.terms.now i in
@@ -74,6 +77,7 @@ fn push_term(sums: &mut Vec<(u32, i128)>, multiple: Multiple<'_>, i: usize) -> R
 }
 
 /// The sum of term `i` of the one list and term `k` of the other, each times its factor.
+#[inline(always)]
 fn sum_at(kept: Multiple<'_>, i: usize, added: Multiple<'_>, k: usize) -> Option<i128>
     requires in_kept { i < length kept.terms.now }
     requires in_added { k < length added.terms.now }
@@ -87,6 +91,7 @@ fn sum_at(kept: Multiple<'_>, i: usize, added: Multiple<'_>, k: usize) -> Option
 }
 
 /// Pushes the sum of term `i` of the one list and term `k` of the other, each times its factor, unless it is 0.
+#[inline(always)]
 fn push_sum(
     sums: &mut Vec<(u32, i128)>,
     kept: Multiple<'_>,

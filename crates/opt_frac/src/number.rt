@@ -3,10 +3,14 @@ ghost use Rattle.std.specs.Bool.{OnTrue};
 ghost use Rattle.std.specs.Option.{SomeIff};
 ghost use Rattle.opt_frac.specs.Divisors.{Fits};
 
-/// The product of two numbers, or none where it lies outside -(2^127 - 1) to 2^127 - 1.
+/// The product of two numbers, or none where it lies outside -(2^127 - 1) to 2^127 - 1. Most factors are 1.
+#[inline(always)]
 pub fn product(a: i128, b: i128) -> Option<i128>
     ensures { SomeIff result (Fits (a *ℤ b)) (a *ℤ b) }
 {
+    if a == 1 {
+        return narrow(b);
+    }
     if is_short(a) && is_short(b) {
         return Some(a * b);
     }
@@ -14,6 +18,7 @@ pub fn product(a: i128, b: i128) -> Option<i128>
 }
 
 /// The sum of two numbers, or none where it lies outside -(2^127 - 1) to 2^127 - 1.
+#[inline(always)]
 pub fn sum(a: i128, b: i128) -> Option<i128>
     ensures { SomeIff result (Fits (a +ℤ b)) (a +ℤ b) }
 {
@@ -21,6 +26,7 @@ pub fn sum(a: i128, b: i128) -> Option<i128>
 }
 
 /// The number, or none where it is -2^127.
+#[inline(always)]
 fn narrow(number: i128) -> Option<i128>
     ensures { SomeIff result (Fits number) number }
 {
@@ -32,6 +38,7 @@ fn narrow(number: i128) -> Option<i128>
 }
 
 /// Whether the number has at most 64 bits with its sign.
+#[inline(always)]
 fn is_short(number: i128) -> bool
     ensures { OnTrue result (unsigned_abs number ≤ 2 ^ 63) }
 {

@@ -1,5 +1,5 @@
 -- The choices of the leaving and the entering variable, one equation and one term at a time.
-use Rattle.std.proofs.Common.{◌≡◌, ℕ, ◌+◌, ◌<◌, ◌≤◌, ◌*ℤ◌, if◌then◌else◌, Bool, true, false, List, [], ◌∷◌, length, get_or, drop, ℤ, pos, Option, Some, None, option_map, IfSome, refl, ap, sym, ◌∙◌, arith}
+use Rattle.std.proofs.Common.{◌≡◌, ℕ, ◌+◌, ◌<◌, ◌≤◌, ◌*ℤ◌, if◌then◌else◌, Bool, true, false, List, [], ◌∷◌, length, get_or, drop, ℤ, pos, Option, Some, None, option_map, is_some, IfSome, refl, ap, sym, ◌∙◌, arith}
 use Rattle.std.specs.Prelude.{int_lt}
 use Rattle.std.proofs.lemmas.List.{drop_more, drop_all}
 use Rattle.opt_sums.specs.Sums.{at}
@@ -49,6 +49,10 @@ pub entering_from-step : (v : Variables) (at_high : List Bool) (below : Bool) (c
 entering_from-step v at_high below cost best ds i d h = ap (entering_from v at_high below cost best) (drop_more ds i d h)
 
 -- ---- by the sides of the values
+pub no_side : (side : Option Bool) → is_some side ≡ false → side ≡ None
+no_side None none = refl
+no_side (Some below) none = cc
+
 abbrev with_side : ℕ → Equation → Bool → Leaving
 with_side i e below = record { position = i; equation = e; below = below }
 
@@ -81,6 +85,20 @@ leaves_by-more es sides i best found next inside now here is step =
     λ v zs are.
     leaving_from-more v es zs i (equation_at es i) (at zs i) best found next (leaving_from v 0 None es zs) inside (omega (arith, are.same_length, inside)) refl
     refl (now v zs are) here (found_out v i (equation_at es i) (at zs i) found here (is ∙ are.each i inside)) step
+
+lesser_alone : (best : Option Leaving) → best ≡ lesser best None
+lesser_alone None = refl
+lesser_alone (Some l) = refl
+
+-- a variable in its range does not leave
+pub leaves_by-same : (es : List Equation) (sides : List (Option Bool)) (i : ℕ) (best : Option Place) → i < length es
+    → ((v : Variables) (zs : List ℤ) → AreSides v es zs sides
+    → leaving_from v i (option_map (leaving_at es) best) (drop i es) (drop i zs) ≡ leaving_from v 0 None es zs)
+    → side_at sides i ≡ None
+    → (v : Variables) (zs : List ℤ) → AreSides v es zs sides
+    → leaving_from v (i + 1) (option_map (leaving_at es) best) (drop (i + 1) es) (drop (i + 1) zs) ≡ leaving_from v 0 None es zs
+leaves_by-same es sides i best inside now none =
+    leaves_by-more es sides i best None best inside now tt (sym none) (lesser_alone (option_map (leaving_at es) best))
 
 -- no side is left
 pub leaves_by-end : (es : List Equation) (sides : List (Option Bool)) (i : ℕ) (best : Option Place) → length es ≤ i

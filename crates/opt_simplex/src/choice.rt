@@ -94,8 +94,10 @@ pub(crate) fn choose_leaving(equations: &[Equation], sides: &[Option<bool>]) -> 
 {
     let mut best = None;
     for i in 0..equations.len() {
-        let found = leaving_on(i, sides[i]);
-        best = lesser(equations, best, found);
+        let side = sides[i];
+        if side.is_some() {
+            best = lesser(equations, best, leaving_on(i, side));
+        }
     }
     best
 }
