@@ -1,4 +1,5 @@
-ghost use Rattle.std.specs.Prelude.{[], ◌∷◌, ◌<◌, ◌≢◌, All, length, ◌+ℤ◌};
+ghost use Rattle.std.specs.Prelude.{◌≡◌, [], ◌∷◌, ◌+◌, ◌-◌, ◌<◌, ◌≤◌, ◌≢◌, All, length, ◌+ℤ◌};
+ghost use Rattle.std.specs.Vec.{vec_len, vec_capacity};
 ghost use Rattle.std.specs.Option.{SomeIff};
 ghost use Rattle.opt_sums.specs.Entries.{IsRising};
 ghost use Rattle.opt_frac.specs.Divisors.{Fits, fits, all_fit};
@@ -30,7 +31,8 @@ pub fn add_multiples(
         Writes result [] sums.new.items (sums_fit first second) (merged_sum first second) }
 {
     sums.clear();
-    sums.reserve(kept.terms.len().saturating_add(added.terms.len()))?;
+    let most = kept.terms.len().checked_add(added.terms.len());
+    sums.reserve(most.ok_or(ElimFault::OutOfMemory)?)?;
     let mut i = 0;
     let mut k = 0;
     while i < kept.terms.len() && k < added.terms.len() {
@@ -64,15 +66,18 @@ fn product_at(multiple: Multiple<'_>, i: usize) -> Option<i128>
     product(multiple.factor, multiple.terms[i].1)
 }
 
-/// Pushes term `i` times its factor.
+/// Pushes term `i` times its factor, for which there is room.
 #[inline(always)]
 fn push_term(sums: &mut Vec<(u32, i128)>, multiple: Multiple<'_>, i: usize) -> Result<(), ElimFault>
-    requires { i < length multiple.terms.now }
-    ensures { let term = multiple_at multiple.entry.factor multiple.entry.terms.now i in
+    requires inside { i < length multiple.terms.now }
+    requires room { vec_len sums.old < vec_capacity sums.old }
+    ensures capacity { vec_capacity sums.new ≡ vec_capacity sums.old }
+    ensures len { vec_len sums.new ≤ vec_len sums.old + 1 }
+    ensures written { let term = multiple_at multiple.entry.factor multiple.entry.terms.now i in
         Writes result sums.old.items sums.new.items (fits term.1) (term ∷ []) }
 {
     let coefficient = product_at(multiple, i).ok_or(ElimFault::Wide)?;
-    sums.push((multiple.terms[i].0, coefficient))?;
+    sums.push_reserved((multiple.terms[i].0, coefficient));
     Ok(())
 }
 
@@ -90,7 +95,8 @@ fn sum_at(kept: Multiple<'_>, i: usize, added: Multiple<'_>, k: usize) -> Option
     sum(first, second)
 }
 
-/// Pushes the sum of term `i` of the one list and term `k` of the other, each times its factor, unless it is 0.
+/// Pushes the sum of term `i` of the one list and term `k` of the other, each times its factor, unless it is 0. There
+/// is room for it.
 #[inline(always)]
 fn push_sum(
     sums: &mut Vec<(u32, i128)>,
@@ -101,25 +107,31 @@ fn push_sum(
 ) -> Result<(), ElimFault>
     requires in_kept { i < length kept.terms.now }
     requires in_added { k < length added.terms.now }
-    ensures { let first = multiple_at kept.entry.factor kept.entry.terms.now i in
+    requires room { vec_len sums.old < vec_capacity sums.old }
+    ensures capacity { vec_capacity sums.new ≡ vec_capacity sums.old }
+    ensures len { vec_len sums.new ≤ vec_len sums.old + 1 }
+    ensures written { let first = multiple_at kept.entry.factor kept.entry.terms.now i in
         let second = multiple_at added.entry.factor added.entry.terms.now k in
         Writes result sums.old.items sums.new.items (sum_fits first.1 second.1) (unless_zero (first.0, first.1 +ℤ second.1) []) }
 {
     let coefficient = sum_at(kept, i, added, k).ok_or(ElimFault::Wide)?;
     if coefficient != 0 {
-        sums.push((kept.terms[i].0, coefficient))?;
+        sums.push_reserved((kept.terms[i].0, coefficient));
     }
     Ok(())
 }
 
-/// Pushes each of the terms from this one on, but for those at `col`, times its factor.
+/// Pushes each of the terms from this one on, but for those at `col`, times its factor. There is room for all.
 fn push_rest(
     sums: &mut Vec<(u32, i128)>,
     col: u32,
     multiple: Multiple<'_>,
     from: usize,
 ) -> Result<(), ElimFault>
-    ensures { let rest = rest_of multiple.entry.factor col multiple.entry.terms.now from in
+    requires room { vec_len sums.old + (length multiple.terms.now - from) ≤ vec_capacity sums.old }
+    ensures capacity { vec_capacity sums.new ≡ vec_capacity sums.old }
+    ensures len { vec_len sums.new ≤ vec_len sums.old + (length multiple.entry.terms.now - from) }
+    ensures written { let rest = rest_of multiple.entry.factor col multiple.entry.terms.now from in
         Writes result sums.old.items sums.new.items (all_fit rest) rest }
 {
     for i in from..multiple.terms.len() {
